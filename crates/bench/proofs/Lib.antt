@@ -1,0 +1,11 @@
+pub mod One
+pub mod OneLaw
+pub mod OneSlot
+pub mod OneFair
+pub mod OneServed
+pub mod OneKeeping
+pub mod OneBanks
+pub mod Views
+pub mod Mirror
+pub mod Law
+pub mod Running

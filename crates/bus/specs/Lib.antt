@@ -1,0 +1,4 @@
+pub mod Symbols
+pub mod Levels
+pub mod Turns
+pub mod Banks

@@ -1,0 +1,4 @@
+pub mod Differences
+pub mod General
+pub mod Dropped
+pub mod Words

@@ -1,0 +1,9 @@
+pub mod Orders
+pub mod Scripts
+pub mod Alone
+pub mod Frames
+pub mod Tests
+pub mod Held
+pub mod Tables
+pub mod Fills
+pub mod Answers

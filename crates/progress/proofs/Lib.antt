@@ -1,0 +1,4 @@
+pub mod Follows
+pub mod Room
+pub mod Moves
+pub mod Handing
