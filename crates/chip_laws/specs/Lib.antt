@@ -1,0 +1,5 @@
+pub mod Served
+pub mod Laws
+pub mod Gauges
+pub mod Memories
+pub mod Unaddressed
