@@ -7,6 +7,8 @@ use Rattle.orders.specs.Orders.{Order, writing, reading}
 use Rattle.orders.specs.Fills.{order-of}
 use Rattle.masters.specs.Master.{place}
 use Rattle.bench.specs.Model.{Model}
+use borrow.Author.Needs.{needs}
+use Rattle.block.specs.Rows.{Status-rows}
 use Rattle.questions.specs.Contests.{bench-of, masters-of, Wins, Both-answered, Takes, For, Alone, Write-against-read, Short-against-200, Short-against-7, One-against-two, Equal-orders, Nobody-at-81, Gauge-written-4}
 
 -- the bench by the orders' meaning alone
@@ -42,3 +44,6 @@ nobody-at-81 = alone (writing 81 [] ∷ []) (Takes 11 (NoAddress 0)) (record { s
 
 pub gauge-written-4 : Gauge-written-4
 gauge-written-4 = alone (writing 72 (4 ∷ []) ∷ []) (Takes 20 (NoByte 0 0)) (record { slots = refl; outcome = refl })
+
+pub status-rows : Status-rows
+status-rows = search needs
