@@ -1,7 +1,7 @@
 -- The bits that a block sends are those of the plan; what a kept slot leaves. Assumes nothing.
 use mathlib.Core.Path.{_≡_, refl, sym, _∙_, ap}
 use mathlib.Core.Bool.{Bool, true, false, cond}
-use Prim.Native.Nat.{ℕ, suc, _+_, _*_, _-_, _/_, _%_, _^_}
+use Prim.Native.Nat.{ℕ, suc, _+_, _*_, _/_, _%_, _^_}
 use native.Mathlib.Omega.{arith}
 use lib.Dec.{eqb}
 use borrow.Author.Tests.{clash}
@@ -18,7 +18,7 @@ use Rattle.block.specs.declared.Task.{Task}
 use Rattle.block.specs.Slots.{same, is-ninth, after-write, after-read}
 use Rattle.block.specs.Flags.{loss}
 use Rattle.block.specs.Heard.{moved-on, bit-passed}
-use Rattle.driver.specs.Driving.{address-byte, lost}
+use Rattle.driver.specs.Driving.{address-byte}
 use Rattle.driver.specs.Tied.{patched}
 use Rattle.driver.proofs.Lost.{task-mid, msts-mid, trc-mid}
 use native.Mathlib.Nat.{div-div-eq-div-mul, pow-succ'}

@@ -2,7 +2,7 @@
 use mathlib.Core.Path.{_≡_, refl, sym, _∙_, ap}
 use mathlib.Core.Bool.{true, false}
 use mathlib.Core.List.{List, _∷_}
-use Prim.Native.Nat.{ℕ, suc, _-_}
+use Prim.Native.Nat.{ℕ, suc}
 use native.Mathlib.Numerals.{add-one}
 use lib.Dec.{ltb}
 use lib.ListN.{length, drop}
@@ -24,7 +24,7 @@ use Rattle.block.specs.declared.Task.the-variants as task
 use Rattle.block.specs.Flags.{loss}
 use Rattle.block.specs.Heard.{moved-on}
 use Rattle.driver.specs.declared.Phase.{Phase}
-use Rattle.driver.specs.declared.Phase.the-variants.{Opening, Address, Write, Read, Stopping}
+use Rattle.driver.specs.declared.Phase.the-variants.{Opening, Stopping}
 use Rattle.driver.specs.declared.Standing.the-variants.{Contending, Answered}
 use Rattle.driver.specs.States.{Known}
 use Rattle.driver.specs.Driving.{loss-cleared, with-standing, ends}

@@ -1,7 +1,7 @@
 -- A contender that loses, and one that goes on in a byte. Assumes nothing.
 use mathlib.Core.Path.{_≡_, refl, sym, subst}
 use mathlib.Core.Bool.{Bool, true, false, cond, not, _&&_, _||_}
-use Prim.Native.Nat.{ℕ, _+_, _-_, min}
+use Prim.Native.Nat.{ℕ, _+_, min}
 use borrow.Author.Tests.{clash}
 use Rattle.bus.specs.declared.Symbol.{Symbol}
 use Rattle.bus.specs.declared.Symbol.the-variants as symbol

@@ -1,7 +1,7 @@
 -- A contender inside a byte. Assumes nothing.
 use mathlib.Core.Path.{_≡_, refl, sym, _∙_, ap, subst}
 use mathlib.Core.Bool.{Bool, true, false, cond, not, _&&_, _||_}
-use Prim.Native.Nat.{ℕ, _-_}
+use Prim.Native.Nat.{ℕ}
 use borrow.Author.Tests.{clash}
 use Rattle.bus.specs.declared.Symbol.{Symbol}
 use Rattle.bus.specs.declared.Symbol.the-variants as symbol

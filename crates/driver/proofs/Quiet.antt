@@ -1,8 +1,8 @@
--- A block with nothing to do, and what the driver makes of it. Assumes nothing.
+-- A block with nothing to do, and what the register master makes of it. Assumes nothing.
 use mathlib.Core.Path.{_≡_, refl, sym, _∙_, ap, subst}
 use mathlib.Core.Bool.{Bool, true, false, cond}
 use mathlib.Core.List.{[]}
-use Prim.Native.Nat.{ℕ, _-_}
+use Prim.Native.Nat.{ℕ}
 use borrow.Author.Tests.{clash}
 use Rattle.bus.specs.declared.Symbol.{Symbol}
 use Rattle.bus.specs.declared.Symbol.the-variants as symbol
@@ -21,7 +21,6 @@ use Rattle.block.specs.declared.Task.the-variants as task
 use Rattle.block.specs.Slots.{is-ninth}
 use Rattle.block.specs.Tasks.{waits, starts}
 use Rattle.block.specs.Heard.{heard, moved-on}
-use Rattle.driver.specs.declared.Phase.the-variants.{Address, Write, Read}
 use Rattle.driver.specs.declared.Standing.{Standing}
 use Rattle.driver.specs.declared.Standing.the-variants.{Idle, Waiting, Answered}
 use Rattle.driver.specs.States.{Known}

@@ -27,7 +27,7 @@ use Rattle.block.specs.Flags.{loss, shifted}
 use Rattle.block.specs.Heard.{moved-on}
 use Rattle.block.specs.Access.{byte-moves}
 use Rattle.driver.specs.declared.Phase.{Phase}
-use Rattle.driver.specs.declared.Phase.the-variants.{Address, Write, Read}
+use Rattle.driver.specs.declared.Phase.the-variants.{Read}
 use Rattle.driver.specs.declared.Standing.the-variants.{Contending}
 use Rattle.driver.specs.States.{Known}
 use Rattle.driver.specs.Driving.{with-standing, with-byte, pushed}

@@ -25,7 +25,7 @@ use Rattle.block.specs.declared.Block.{Block}
 use Rattle.block.specs.declared.Task.the-variants as task
 use Rattle.block.specs.Slots.{same}
 use Rattle.driver.specs.declared.Phase.{Phase}
-use Rattle.driver.specs.declared.Phase.the-variants.{Opening, Address, Write, Read, Stopping}
+use Rattle.driver.specs.declared.Phase.the-variants.{Opening, Write, Read, Stopping}
 use Rattle.driver.specs.declared.Standing.{Standing}
 use Rattle.driver.specs.declared.Standing.the-variants.{Contending}
 use Rattle.driver.specs.States.{Known}

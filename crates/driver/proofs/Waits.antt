@@ -2,7 +2,7 @@
 use mathlib.Core.Path.{_≡_, refl, ap}
 use mathlib.Core.Bool.{false}
 use mathlib.Core.List.{List, _∷_}
-use Prim.Native.Nat.{suc, _+_, _-_, min}
+use Prim.Native.Nat.{suc, _+_, min}
 use native.Mathlib.Omega.{arith}
 use lib.ListN.{length}
 use borrow.Author.Tests.{clash, lt-ltb}
@@ -20,7 +20,6 @@ use Rattle.masters.specs.Standings.{hears}
 use Rattle.block.specs.declared.Block.{Block}
 use Rattle.block.specs.declared.Task.the-variants as task
 use Rattle.block.specs.Heard.{heard}
-use Rattle.driver.specs.declared.Phase.the-variants.{Address, Write, Read}
 use Rattle.driver.specs.declared.Standing.the-variants.{Waiting}
 use Rattle.driver.specs.States.{Known}
 use Rattle.driver.specs.Driving.{loss-cleared, retried, with-standing}

@@ -2,7 +2,7 @@
 use mathlib.Core.Path.{_≡_, refl, sym, _∙_, ap, subst}
 use mathlib.Core.Bool.{Bool, true, false, cond, not, _&&_}
 use mathlib.Core.List.{List}
-use Prim.Native.Nat.{ℕ, zero, suc, _+_, _-_, _/_, _^_}
+use Prim.Native.Nat.{ℕ, zero, suc, _+_, _/_, _^_}
 use native.Mathlib.Omega.{arith}
 use lib.Dec.{ltb}
 use lib.ListN.{length, getD}
@@ -26,7 +26,7 @@ use Rattle.block.specs.Flags.{loss}
 use Rattle.block.specs.Heard.{moved-on}
 use Rattle.block.specs.Access.{byte-moves}
 use Rattle.driver.specs.declared.Phase.{Phase}
-use Rattle.driver.specs.declared.Phase.the-variants.{Address, Write, Read}
+use Rattle.driver.specs.declared.Phase.the-variants.{Write}
 use Rattle.driver.specs.declared.Standing.the-variants.{Contending}
 use Rattle.driver.specs.States.{Known}
 use Rattle.driver.specs.Driving.{ended, loss-cleared, retried, with-standing, failed, standing-on, block-on}

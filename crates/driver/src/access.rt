@@ -31,18 +31,21 @@ pub(crate) fn assembled() -> Block
     block
 }
 
+// An S next. On a busy bus with no wait this is refused, and alters nothing.
 pub(crate) fn begin(block: &mut Block)
     ensures { λ _. ⌜ now (block .exit) ≡ begun (now (block .entry)) ⌝ }
 {
     let _ = block.write(IICC0, ON + STT0);
 }
 
+// A P next.
 pub(crate) fn end(block: &mut Block)
     ensures { λ _. ⌜ now (block .exit) ≡ ended (now (block .entry)) ⌝ }
 {
     let _ = block.write(IICC0, ON + SPT0);
 }
 
+// Drops the S that was asked for.
 pub(crate) fn release(block: &mut Block)
     ensures { λ _. ⌜ now (block .exit) ≡ releasedOf (now (block .entry)) ⌝ }
 {
@@ -73,12 +76,14 @@ pub(crate) fn receive(block: &mut Block, more: bool)
     }
 }
 
+// The byte goes out next.
 pub(crate) fn send(block: &mut Block, byte: u8)
     ensures { λ _. ⌜ now (block .exit) ≡ sent byte (now (block .entry)) ⌝ }
 {
     let _ = block.write(IIC0, byte as u32);
 }
 
+// Whether MSTS0 is set; then ALD0, ACKD0, and STT0.
 pub(crate) fn is_master(block: &Block) -> bool
     ensures { λ r. ⌜ r ≡ now (block .entry) .status .msts0 ⌝ }
 {

@@ -15,7 +15,7 @@ pub use rows::status_rows;
 
 // What a contender is about: an S before a segment, its address byte, a byte written, a byte read, its P.
 #[derive(Clone, Copy)]
-pub enum Phase {
+enum Phase {
     Opening,
     Address,
     Write,
@@ -25,16 +25,16 @@ pub enum Phase {
 
 // Segments and bytes count from 0; the bits of a byte are counted by the block.
 #[derive(Clone, Copy)]
-pub enum Standing {
+enum Standing {
     Idle,
     Waiting,
     Contending { phase: Phase, segment: u8, byte: u8 },
     Answered,
 }
 
-// What is kept beside the block and the order.
+// What is kept beside the block and the order: the bytes are those read so far.
 #[derive(Clone, Copy)]
-pub struct State {
+struct State {
     standing: Standing,
     losses: u16,
     outcome: Outcome,

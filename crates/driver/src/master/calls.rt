@@ -1,11 +1,12 @@
 // What a register master does.
 ghost use mathlib.Core.Path.{_≡_};
-ghost use mathlib.Core.Bool.{true, false};
+ghost use mathlib.Core.Bool.{false};
 ghost use lib.ListN.{length};
 ghost use Rattle.bus.specs.declared.Turn.the-variants.{Free};
 ghost use Rattle.orders.specs.Fills.{order-of};
 ghost use Rattle.masters.specs.Standings.{idle as idleStanding, is-waiting as isWaiting};
 ghost use Rattle.masters.specs.Master as master;
+ghost use Rattle.block.specs.Tasks.{offers};
 ghost use Rattle.block.specs.Access.{IICSE0 as statusRegister, read-value};
 ghost use Rattle.driver.specs.Driver.{master-of, assembled as assembledBlock};
 use super::Driver;
@@ -45,10 +46,16 @@ impl Driver {
         }
     }
 
+    fn block_offer(&self) -> Symbol
+        ensures { λ r. ⌜ r ≡ offers (now (self .entry) .block) ⌝ }
+    {
+        self.block.offer()
+    }
+
     pub fn offer(&self) -> Symbol
         ensures { λ r. ⌜ r ≡ master.offers (master-of (now (self .entry))) ⌝ }
     {
-        self.block.offer()
+        self.block_offer()
     }
 
     // A slot carries the symbol. A P leaves ALD0 = 0.
@@ -114,7 +121,7 @@ impl Driver {
                 release(&mut self.block);
                 Ok(())
             }
-            Standing::Waiting | Standing::Contending { .. } => Err(Refusal::BusNotFree),
+            Standing::Contending { .. } | Standing::Waiting => Err(Refusal::BusNotFree),
         }
     }
 
