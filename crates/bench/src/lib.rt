@@ -1,4 +1,6 @@
 // A bench of masters and slaves, its six calls, and the law that holds of them. A call of `law::holds` brings the theorem; it does nothing.
+#![tactic(auto)]
+
 ghost use Rattle.std.specs.Prelude.{◌≡◌, [], ◌∷◌, ◌++◌, ◌+◌, ◌-◌, ◌≤◌, length};
 ghost use Rattle.books.specs.Marks.{marked, blank};
 ghost use Rattle.bus.specs.Symbols.{rank as rank_of};

@@ -73,15 +73,15 @@ byte_offer b task.Start = One
 byte_offer b task.Stop = One
 
 -- in a contest of its own it takes part in the byte
-abbrev pub own_offer : Block → Task → Symbol
-own_offer b t = cond b.status.msts0 (cond (is_ninth b.turn) (ninth_offer b) (byte_offer b t)) One
+abbrev pub contest_offer : Block → Task → Symbol
+contest_offer b t = cond b.status.msts0 (cond (is_ninth b.turn) (ninth_offer b) (byte_offer b t)) One
 
 abbrev pub task_offer : Block → Task → Symbol
-task_offer b task.Rest = own_offer b task.Rest
+task_offer b task.Rest = contest_offer b task.Rest
 task_offer b task.StartWait = One
 task_offer b task.NinthWait = One
-task_offer b (task.Send v) = own_offer b (task.Send v)
-task_offer b task.Receive = own_offer b task.Receive
+task_offer b (task.Send v) = contest_offer b (task.Send v)
+task_offer b task.Receive = contest_offer b task.Receive
 task_offer b task.Start = Start
 task_offer b task.Stop = Stop
 

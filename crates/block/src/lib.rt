@@ -1,4 +1,6 @@
 // The IIC register block of the EMMA Mobile1, as a master.
+#![tactic(auto)]
+
 mod flags;
 mod registers;
 mod slots;

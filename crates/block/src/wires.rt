@@ -1,6 +1,6 @@
 // What the block offers, and what a slot does to it.
 ghost use Rattle.std.specs.Prelude.{◌≡◌};
-ghost use Rattle.block.specs.Tasks.{offers, own_offer};
+ghost use Rattle.block.specs.Tasks.{offers, contest_offer};
 ghost use Rattle.block.specs.Heard.{task_after, shift_after, heard as heard_of};
 
 use crate::flags::shifted;
@@ -10,8 +10,8 @@ use bus::Symbol;
 
 impl Block {
     // The ninth slot's acknowledgement, or the bit of the byte in IIC0 that is due.
-    fn own_offer(&self) -> Symbol
-        ensures { result ≡ own_offer self.now self.now.task }
+    fn contest_offer(&self) -> Symbol
+        ensures { result ≡ contest_offer self.now self.now.task }
     {
         if !self.status.msts0 {
             return Symbol::One;
@@ -40,7 +40,7 @@ impl Block {
             Task::Start => Symbol::Start,
             Task::Stop => Symbol::Stop,
             Task::StartWait | Task::NinthWait => Symbol::One,
-            Task::Rest | Task::Send(_) | Task::Receive => self.own_offer(),
+            Task::Rest | Task::Send(_) | Task::Receive => self.contest_offer(),
         }
     }
 

@@ -1,4 +1,6 @@
 // Laws of the block, each over all blocks: what a wrong rule would break, were it written down and programmed alike.
+#![tactic(auto)]
+
 ghost use Rattle.block_laws.specs.Laws.{LossStays, AfterStop, AfterStart, Loses, SlavesSpare, WaitsOn, Directed, Refused, ControlReads, StatusReads, Off, Sends, Waits, Silent, Unacknowledged};
 ghost use Rattle.block_laws.specs.Rows.{StatusRows, FurtherRows, OfferRows, RefusalRows};
 

@@ -1,4 +1,6 @@
 // Books: marks of one kind in memory that a caller lends.
+#![tactic(auto)]
+
 ghost use Rattle.std.specs.Prelude.{◌≡◌, ◌+◌, ◌-◌, ◌≤◌, ltb, [], ◌∷◌, ◌++◌, length, is_ok, if◌then◌else◌, nat_lt};
 ghost use Rattle.refusals.specs.Numbers.{returned};
 ghost use Rattle.books.specs.Marks.{marked, blank};

@@ -52,7 +52,7 @@ impl Mark for Level {
         }
     }
 
-    fn top() -> Level {
+    fn greatest() -> Level {
         Level::High
     }
 }

@@ -1,4 +1,6 @@
 // The bus: what a slot may carry, and whose slot it is.
+#![tactic(auto)]
+
 mod levels;
 mod symbols;
 mod turns;

@@ -78,7 +78,7 @@ impl Symbol {
 
 impl Direction {
     // The direction that the last slot of an address byte tells.
-    pub(crate) fn of_bit(bit: Symbol) -> Direction
+    pub fn of_bit(bit: Symbol) -> Direction
         ensures { result ≡ heading bit }
     {
         match bit {
@@ -105,7 +105,7 @@ impl Mark for Symbol {
         self.rank().cmp(&other.rank())
     }
 
-    fn top() -> Symbol {
+    fn greatest() -> Symbol {
         Symbol::One
     }
 }

@@ -1,4 +1,6 @@
 // What orders get of the slaves of `chips`: laws that the checker holds them to, with nothing to run.
+#![tactic(auto)]
+
 ghost use Rattle.chip_laws.specs.Laws.{OrdersAreServed, AssemblyAltersNone, NewChipsAreReady};
 ghost use Rattle.chip_laws.specs.Gauges.{GaugesKeepTheirLaw};
 ghost use Rattle.chip_laws.specs.Memories.{MemoriesKeepTheirLaw};

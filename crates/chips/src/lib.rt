@@ -1,4 +1,6 @@
 // Slaves that are built: a gauge and a memory, over one machinery of address and bytes.
+#![tactic(auto)]
+
 ghost use Rattle.std.specs.Prelude.{◌≡◌, Bool, length, if◌then◌else◌, nat_lt, slice_index};
 ghost use Rattle.chips.specs.Store.{Store, Rule, stored};
 

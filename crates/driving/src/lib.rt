@@ -1,4 +1,6 @@
 // How the register master works its block: what it reads and writes after a slot, and what it keeps beside the block.
+#![tactic(auto)]
+
 mod access;
 mod steps;
 

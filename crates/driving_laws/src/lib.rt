@@ -1,4 +1,6 @@
 // What the register master makes of its block is what a master does. Each function asks for one theorem.
+#![tactic(auto)]
+
 ghost use Rattle.driving_laws.specs.Agreement.{RegistersAgree};
 ghost use Rattle.driving_laws.specs.Rows.{StatusRows};
 

@@ -1,4 +1,6 @@
 // Worked examples of the parts, as tests. They stand in a crate of their own, since a crate with tests is proved twice.
+#![tactic(auto)]
+
 #[cfg(test)]
 mod driving;
 #[cfg(test)]

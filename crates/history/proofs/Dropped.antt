@@ -1,12 +1,10 @@
 -- Contests in which contenders may be dropped between slots: those that are kept fare as in a contest of their own.
 -- Over the general lemma as it stands. Assumes nothing.
-use Rattle.std.proofs.Common.{◌≡◌, ℕ, ◌≤◌, Bool, true, false, cond, ◌⊎◌, List, [], ◌∷◌, sym, refl, ap, ◌∙◌, subst, inl, inr, arith, eqb-true}
+use Rattle.std.proofs.Common.{◌≡◌, ℕ, Bool, true, false, cond, ◌⊎◌, List, [], ◌∷◌, sym, refl, ap, ◌∙◌, subst, inl, inr, arith, eqb-true}
 use mathlib.Core.Path.{fun_ext}
 use mathlib.Core.Option.{Option, none, some}
-use borrow.Author.Tests.{clash}
-use Rattle.history.specs.Marks.{Marks, least}
-use Rattle.history.specs.Contest.{Rule, on, Turns, stays, Survives, Polite, Keeps, Then, Carried, heard, Contest, FairStart, Fair, Drops, keep}
-use Rattle.history.proofs.General.{polite_on, keeps_on, then_both, then_map, is_in, was_in, fair, legal_slot}
+use Rattle.history.specs.Contest.{Rule, on, Turns, stays, Survives, Polite, Keeps, Carried, heard, Contest, FairStart, Fair, Drops, keep}
+use Rattle.history.proofs.General.{polite_on, then_map, is_in, fair, legal_slot}
 
 module _ {M T : Type 0} (G : Turns M T) where
   module _ {I : Type 0} (K : I → Bool) where

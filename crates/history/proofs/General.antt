@@ -1,9 +1,8 @@
 -- The contest lemma: what a family of contenders carries is the least of their histories alone. Assumes nothing.
-use Rattle.std.proofs.Common.{◌≡◌, ℕ, zero, suc, ◌<◌, ◌≤◌, Bool, true, false, cond, eqb, leb, ◌⊎◌, List, [], ◌∷◌, sym, refl, ap, ◌∙◌, subst, inl, inr, suc-le-suc, zero-le, arith, eq-eqb, eqb-true, le-leb, leb-false, leb-true}
+use Rattle.std.proofs.Common.{◌≡◌, ℕ, zero, suc, ◌<◌, ◌≤◌, Bool, true, false, cond, eqb, leb, ◌⊎◌, List, [], ◌∷◌, sym, refl, ap, ◌∙◌, inl, inr, suc-le-suc, zero-le, arith, eq-eqb, eqb-true, le-leb, leb-false, leb-true}
 use mathlib.Core.Option.{Option, none, some}
-use borrow.Author.Tests.{lt-leb}
-use Rattle.history.specs.Marks.{Marks, least, mark, Less}
-use Rattle.history.specs.Contest.{Rule, on, Turns, turn_after, Follows, stays, Survives, Polite, Keeps, Then, Alone, Carried, heard, Contest, FairStart, Fair}
+use Rattle.history.specs.Marks.{Marks, least, mark}
+use Rattle.history.specs.Contest.{Rule, on, Turns, stays, Survives, Polite, Keeps, Then, Alone, Carried, heard, Contest, FairStart, Fair}
 
 module _ {M : Type 0} (m : Marks M) where
   pub least_left : (a b : M) → m.rank a ≤ m.rank b → least m a b ≡ a

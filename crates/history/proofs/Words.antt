@@ -1,7 +1,7 @@
 -- A history alone, in two words. Assumes nothing.
 use Rattle.std.proofs.Common.{◌≡◌, ℕ, List, [], ◌∷◌, ◌++◌, sym, refl, ap, ◌∙◌, arith}
 use Rattle.history.specs.Marks.{least}
-use Rattle.history.specs.Contest.{Rule, on, Turns, Then, Alone, EndsOnce, GrowsAlone}
+use Rattle.history.specs.Contest.{Rule, on, Turns, Alone, EndsOnce, GrowsAlone}
 use Rattle.history.proofs.General.{then_map, then_both}
 
 not_ended : {M : Type 0} (l m : List M) (x : M) → [] ≡ l ++ (x ∷ m) → ⊥

@@ -4,8 +4,7 @@
 --     Alone      the history that one script has against a reply, with no other contender
 --     Contest    the history that a family of contenders carries together
 --     Fair       what a contest comes to: the least of the histories that its contenders would have had alone
-use Rattle.std.specs.Prelude.{◌≡◌, ℕ, ◌≤◌, Bool, true, false, cond, ◌⊎◌, ◌↔◌, List, [], ◌∷◌, ◌++◌, ◌==◌}
-use Rattle.std.proofs.Common.{inl, inr}
+use Rattle.std.specs.Prelude.{◌≡◌, ◌≤◌, Bool, true, false, cond, ◌⊎◌, ◌↔◌, List, [], ◌∷◌, ◌++◌, ◌==◌}
 use Rattle.std.proofs.Math.Option.{Option, none, some}
 use Rattle.history.specs.Marks.{Marks, least, Less}
 

@@ -1,4 +1,6 @@
 // The program `key`: a bench of two masters, a gauge and a memory, worked by lines.
+#![tactic(auto)]
+
 use anyhow::impls::*;
 use key_lines::Session;
 

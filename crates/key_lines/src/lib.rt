@@ -1,4 +1,6 @@
 // Lines of numbers in, lines of numbers out, and a bench between.
+#![tactic(auto)]
+
 mod commands;
 mod replies;
 mod session;

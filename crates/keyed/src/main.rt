@@ -1,4 +1,6 @@
 // The keyed questions: what the bench does, for both makes of master, held against what was worked out by hand.
+#![tactic(auto)]
+
 mod contests;
 mod status;
 

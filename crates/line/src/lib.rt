@@ -1,4 +1,6 @@
 // The line master: it works the turns directly.
+#![tactic(auto)]
+
 ghost use Rattle.std.specs.Prelude.{◌≡◌, cond, length};
 ghost use Rattle.bus.specs.declared.Turn.TheVariants.{Free};
 ghost use Rattle.bus.specs.Symbols.{is_stop};

@@ -1,4 +1,6 @@
 // Masters by their meaning, and banks of them.
+#![tactic(auto)]
+
 ghost use Rattle.std.specs.Prelude.{◌≡◌, length};
 ghost use Rattle.bus.specs.Banks.{Bank, Both, each, beyond};
 ghost use Rattle.orders.specs.Fills.{order_of};

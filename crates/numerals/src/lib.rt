@@ -1,4 +1,6 @@
 // Lines of decimal numbers: from bytes to numbers, and from numbers to text.
+#![tactic(auto)]
+
 mod kept;
 mod numbers;
 mod reading;

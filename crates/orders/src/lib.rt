@@ -1,4 +1,6 @@
 // Orders and answers.
+#![tactic(auto)]
+
 use bus::Direction;
 
 mod answers;

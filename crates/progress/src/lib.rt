@@ -1,4 +1,6 @@
 // How far a contender has come in its order: a position of a few numbers, and what it has noted.
+#![tactic(auto)]
+
 ghost use Rattle.std.specs.Prelude.{◌≡◌, ◌+◌, ◌<◌, ◌≤◌, true, length};
 ghost use Rattle.scripts.specs.Scripts.{offer as offer_of, no_notes};
 ghost use Rattle.orders.specs.Orders.{read_of};

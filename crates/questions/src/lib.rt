@@ -1,4 +1,6 @@
 // The keyed questions, answered from the rules.
+#![tactic(auto)]
+
 ghost use Rattle.block_laws.specs.Rows.{StatusRows};
 ghost use Rattle.questions.specs.Contests.{WriteAgainstRead, ShortAgainst200, ShortAgainst7, OneAgainstTwo, EqualOrders, NobodyAt81, GaugeWritten4};
 

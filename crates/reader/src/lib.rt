@@ -1,4 +1,6 @@
 // The reader: a record of ranks, taken apart into words.
+#![tactic(auto)]
+
 ghost use Rattle.std.specs.Prelude.{◌≡◌};
 ghost use Rattle.reader.specs.Words.{listed as listed_of, kind_number, meant};
 

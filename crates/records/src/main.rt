@@ -1,4 +1,6 @@
 // Reads records that are written out here and prints a line for each.
+#![tactic(auto)]
+
 mod made;
 
 use anyhow::impls::*;

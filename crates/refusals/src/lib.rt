@@ -1,4 +1,6 @@
 // What a call returns: 0 where it is done, else the number of a refusal.
+#![tactic(auto)]
+
 ghost use Rattle.std.specs.Prelude.{◌≡◌};
 ghost use Rattle.refusals.specs.Numbers.{number as number_of};
 

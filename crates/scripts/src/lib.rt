@@ -1,4 +1,6 @@
 // What an order comes to on the wires: its script, its history alone, and the 7-bit format. Each function asks for one theorem.
+#![tactic(auto)]
+
 ghost use Rattle.scripts.specs.Alone.{AloneHistories};
 ghost use Rattle.scripts.specs.Frames.{OrdersAreFramed};
 

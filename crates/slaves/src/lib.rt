@@ -1,4 +1,6 @@
 // Slaves by their meaning, and banks of them.
+#![tactic(auto)]
+
 ghost use Rattle.std.specs.Prelude.{◌≡◌};
 ghost use Rattle.bus.specs.Banks.{Bank, Both, All, each, beyond};
 ghost use Rattle.slaves.specs.Slave.{Slave, Heard, Freed, befallen, Well, offered, told, tell};

@@ -1,5 +1,7 @@
 // How fast the bench of `key` is: ten million slots, by runs of at most 999, both masters given a new order before each.
 // What was moved goes to standard output, the slots a second to standard error.
+#![tactic(auto)]
+
 use anyhow::anyhow;
 use anyhow::impls::*;
 use bench::Bench;

@@ -1,4 +1,6 @@
 // Line masters and register masters in each other's places: the same orders make the same slots and the same answers.
+#![tactic(auto)]
+
 mod cases;
 mod play;
 

@@ -1,4 +1,6 @@
 // One transfer, followed from the order to the answer: a line master sets a gauge's pointer and reads two of its registers.
+#![tactic(auto)]
+
 mod text;
 
 use anyhow::anyhow;

@@ -1,4 +1,4 @@
-// Bytes in their order as numbers, 255 the top one.
+// Bytes in their order as numbers, 255 the greatest.
 ghost use Rattle.std.specs.Prelude.{◌≡◌, ℕ, ◌<◌, ◌≤◌};
 ghost use Rattle.history.specs.Bytes.{bytes};
 
@@ -28,7 +28,7 @@ impl Mark for Byte {
         self.value.cmp(&other.value)
     }
 
-    fn top() -> Byte {
+    fn greatest() -> Byte {
         Byte::new(255)
     }
 }

@@ -16,7 +16,7 @@ impl Bytes {
     }
 
     // The first 32 of some bytes.
-    pub(crate) fn copied(bytes: &[u8]) -> Self
+    pub fn copied(bytes: &[u8]) -> Self
         ensures { held result ≡ take 32 bytes.now }
     {
         let mut copy = Bytes::new();
@@ -27,8 +27,14 @@ impl Bytes {
         copy
     }
 
+    pub fn len(&self) -> u8
+        ensures { result ≡ length (held self.now) }
+    {
+        self.used
+    }
+
     // The byte at a place, or 0 past the end.
-    pub(crate) fn at(&self, place: u8) -> u8
+    pub fn at(&self, place: u8) -> u8
         ensures { result ≡ slice_index (held self.now) place }
     {
         if place < self.used {

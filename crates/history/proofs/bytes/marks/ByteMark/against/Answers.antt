@@ -1,5 +1,6 @@
 use Rattle.std.proofs.Common.{◌≡◌, ◌<◌, Ordering, Less, Equal, Greater}
 use Rattle.std.specs.Ordering.{MatchOrdering}
+use Rattle.std.proofs.lemmas.Cmp.{ranked}
 use Rattle.history.specs.declared.bytes.Byte.{Byte}
 use Rattle.history.specs.Bytes.{same_value}
 use Rattle.history.proofs.bytes.marks.ByteMark.against.Goals as goal
@@ -11,4 +12,4 @@ by_value Equal a b s = same_value a b s
 by_value Greater a b s = s
 
 pub returns : goal.returns
-returns c = by_value c.cmp.result c.args.self c.args.other c.cmp.ensures
+returns c = by_value c.cmp.result c.args.self c.args.other (ranked c.args.self.value c.args.other.value c.cmp.result c.cmp.ensures)
