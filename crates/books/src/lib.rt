@@ -42,7 +42,7 @@ impl<'a, T: Copy> Book<'a, T> {
     pub fn mark(&mut self, mark: T) -> Result<(), Refusal>
         ensures answer { returned result ≡ (if ltb self.old.used (length self.old.places.now) then 0 else 22) }
         ensures test { is_ok result ≡ nat_lt self.old.used (length self.old.places.now) }
-        ensures used { self.new.used ≡ cond (is_ok result) (self.old.used + 1) self.old.used }
+        ensures used { self.new.used ≡ (if is_ok result then self.old.used + 1 else self.old.used) }
         ensures marks { marked self.new.places.now self.new.used ≡ (if is_ok result then marked self.old.places.now self.old.used ++ (mark ∷ []) else marked self.old.places.now self.old.used) }
         ensures rest { blank self.new.places.now self.new.used ≡ blank self.old.places.now self.new.used }
         ensures long { length self.new.places.now ≡ length self.old.places.now }

@@ -1,8 +1,8 @@
 -- Parts of a buffer written one after another. Assumes nothing.
-use Rattle.std.proofs.Common.{◌≡◌, ℕ, ◌+◌, ◌-◌, ◌<◌, ◌≤◌, min, Bool, true, false, cond, leb, List, [], ◌∷◌, ◌++◌, length, take, drop, sym, refl, ap, ◌∙◌, arith, length-drop, length-take, leb-false, leb-true}
+use Rattle.std.proofs.Common.{◌≡◌, ℕ, ◌+◌, ◌-◌, ◌<◌, ◌≤◌, min, Bool, true, false, cond, List, [], ◌∷◌, ◌++◌, length, take, drop, sym, refl, ap, ◌∙◌, arith, length-drop, length-take}
 use borrow.Rule.Slice.PartMut.{put_mid}
 use Rattle.std.specs.List.{between}
-use Rattle.std.proofs.lemmas.List.{append_assoc, append-nil, length-take-le, take_rest, take-append-drop, take_at, drop_at, drop-drop, drop_all, drop-take, take-take, take_all}
+use Rattle.std.proofs.lemmas.List.{append_assoc, append_nil, length-take-le, take_rest, take-append-drop, take_at, drop_at, drop-drop, drop_all, drop-take, take-take}
 use Rattle.std.proofs.lemmas.Slice.{between_is}
 use Rattle.progress.specs.Handing.{put_at}
 
@@ -12,7 +12,7 @@ put_part buffer bytes part at fits e =
     let past : drop (length buffer - at) (drop at buffer) ≡ [] = drop-drop (length buffer - at) at buffer ∙ drop_all (at + (length buffer - at)) buffer (omega arith) in
     ap (λ p. take at buffer ++ p) (
     ap (λ d. part ++ d) past
-    ∙ append-nil part
+    ∙ append_nil part
     ∙ e
     ∙ ap (λ d. bytes ++ d) (ap (λ d. drop (length bytes) d) (take_rest buffer at) ∙ drop-drop (length bytes) at buffer))
 
@@ -47,15 +47,7 @@ put_next bytes old at next low high fits =
     ∙ ap (λ l. l ++ drop next old) whole
 
 -- where the next part begins, of n bytes if it is there at all, before what is left to come
-pub part_next : (there : Bool) (n at len rest next : ℕ) → next ≡ cond there (min (at + n) len) at → at ≤ len
-    → (at ≤ next) × (next ≤ len) × (min (next + rest) len ≡ min (at + (cond there n 0 + rest)) len)
-part_next true n at len rest next e l = (omega arith, omega arith, omega arith)
-part_next false n at len rest next e l = (omega arith, omega arith, omega arith)
-
--- as many as there are of the first n
-pub take_some : (n k : ℕ) (bytes : List ℕ) → k ≡ min n (length bytes) → take k bytes ≡ take n bytes
-take_some n k bytes e = go (leb n (length bytes)) refl
-  where
-    go : (b : Bool) → leb n (length bytes) ≡ b → take k bytes ≡ take n bytes
-    go true t = let le = leb-true n (length bytes) t in ap (λ m. take m bytes) (omega arith)
-    go false t = let gt = leb-false n (length bytes) t in take_all k bytes (omega arith) ∙ sym (take_all n bytes (omega arith))
+pub part_next : (there : Bool) (n at len rest next : ℕ) → next ≡ cond there (min (at + n) len) at → at ≤ len → len ≤ at + (cond there n 0 + rest)
+    → (at ≤ next) × (next ≤ len) × (len ≤ next + rest)
+part_next true n at len rest next e l h = (omega arith, omega arith, omega arith)
+part_next false n at len rest next e l h = (omega arith, omega arith, omega arith)

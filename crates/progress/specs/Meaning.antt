@@ -1,5 +1,5 @@
 -- What a contender's progress means, and the answer that is kept for collect. Assumes nothing.
-use Rattle.std.specs.Prelude.{ℕ, cond, List, ◌++◌, length, take, drop, Ok, Err, Result, nat_lt}
+use Rattle.std.specs.Prelude.{ℕ, cond, List, ◌++◌, length, drop, Ok, Err, Result, nat_lt}
 use Rattle.refusals.specs.declared.Refusal.{Refusal}
 use Rattle.refusals.specs.declared.Refusal.TheVariants.{ShortBuffer}
 use Rattle.orders.specs.declared.Answer as code
@@ -11,14 +11,13 @@ use Rattle.orders.specs.Answers.{handed}
 use Rattle.progress.specs.declared.script.Progress.{Progress}
 use Rattle.progress.specs.declared.finished.Finished.{Finished}
 use Rattle.progress.specs.Notes.{notes_of}
-use Rattle.progress.specs.Plans.{progress_at, read_total}
+use Rattle.progress.specs.Plans.{progress_at}
 
 abbrev pub progress_of : Progress → model.Progress
 progress_of p = progress_at (order_of p.order) p.position (notes_of p.notes)
 
--- no more bytes than the order reads
 abbrev pub answer_in : Finished → Answer
-answer_in f = record { outcome = f.outcome; losses = f.losses; bytes = take (read_total (order_of f.order)) (held f.bytes) }
+answer_in f = record { outcome = f.outcome; losses = f.losses; bytes = held f.bytes }
 
 -- an answer handed over, into a buffer of that many bytes: what is returned, and the buffer afterwards
 abbrev pub handing : ℕ → Answer → Result code.Answer Refusal

@@ -118,18 +118,6 @@ impl Driver {
         }
     }
 
-    // Its answer, as it is handed over.
-    fn finished(&self) -> Finished
-        ensures { self.now.state.standing ≡ Standing.Answered → answer_in result ≡ record { outcome = self.now.state.outcome; losses = self.now.state.losses; bytes = held self.now.state.bytes } }
-    {
-        Finished::new(
-            self.order,
-            self.state.outcome,
-            self.state.losses,
-            self.state.bytes,
-        )
-    }
-
     // Hands over an answer once.
     pub fn collect(&mut self, buffer: &mut [u8]) -> Result<Answer, Refusal>
         ensures answer { result ≡ master.collect_one (length buffer.old) (master_of self.old).standing }
@@ -139,7 +127,13 @@ impl Driver {
         let Standing::Answered = self.state.standing else {
             return Err(Refusal::NotAnswered);
         };
-        let answer = self.finished().collect(buffer)?;
+        let finished = Finished::new(
+            self.order,
+            self.state.outcome,
+            self.state.losses,
+            self.state.bytes,
+        );
+        let answer = finished.collect(buffer)?;
         self.state.standing = Standing::Idle;
         Ok(answer)
     }

@@ -1,5 +1,5 @@
 // Handing an answer over, segment by segment.
-ghost use Rattle.std.specs.Prelude.{◌≡◌, ◌+◌, ◌≤◌, min, ◌++◌, length, take, drop, if◌then◌else◌};
+ghost use Rattle.std.specs.Prelude.{◌≡◌, ◌+◌, ◌≤◌, min, ◌++◌, length, drop, if◌then◌else◌};
 ghost use Rattle.std.specs.List.{between};
 ghost use Rattle.orders.specs.Held.{held};
 ghost use Rattle.orders.specs.Orders.{read_of};
@@ -38,9 +38,9 @@ fn hand_part(segment: Segment, bytes: &Bytes, buffer: &mut [u8], at: usize) -> u
 }
 
 impl Finished {
-    // An answer of no more bytes than the order reads.
     pub fn new(order: Order, outcome: Outcome, losses: u16, bytes: Bytes) -> Finished
-        ensures { answer_in result ≡ record { outcome = outcome; losses = losses; bytes = take (read_total (order_of order)) (held bytes) } }
+        requires { length (held bytes) ≤ read_total (order_of order) }
+        ensures { answer_in result ≡ record { outcome = outcome; losses = losses; bytes = held bytes } }
     {
         Finished {
             order,
@@ -50,19 +50,15 @@ impl Finished {
         }
     }
 
-    // How many bytes were handed over.
-    fn hand_over(&self, buffer: &mut [u8]) -> usize
+    fn hand_over(&self, buffer: &mut [u8])
         requires { 32 ≤ length buffer.old }
-        ensures count { result ≡ length (answer_in self.now).bytes }
-        ensures few { result ≤ 32 }
-        ensures after { buffer.new ≡ (answer_in self.now).bytes ++ drop (length (answer_in self.now).bytes) buffer.old }
+        ensures { buffer.new ≡ held self.now.bytes ++ drop (length (held self.now.bytes)) buffer.old }
     {
         let bytes = self.bytes;
         let mut at = 0;
         for i in 0..self.order.len() {
             at = hand_part(self.order.segment(i), &bytes, buffer, at);
         }
-        at
     }
 
     // The bytes of each read segment go into their own part of the buffer; the rest is untouched.
@@ -73,11 +69,11 @@ impl Finished {
         if buffer.len() < 32 {
             return Err(Refusal::ShortBuffer);
         }
-        let count = self.hand_over(buffer);
+        self.hand_over(buffer);
         Ok(Answer {
             outcome: self.outcome,
             losses: self.losses,
-            count: count as u8,
+            count: self.bytes.len(),
         })
     }
 }

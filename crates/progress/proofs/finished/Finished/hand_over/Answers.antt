@@ -1,12 +1,12 @@
 use Rattle.std.proofs.Common.{◌≡◌, ◌+◌, ◌<◌, ◌≤◌, min, cond, ◌++◌, length, get_or, take, drop, sym, ap, ◌∙◌, arith, length-take, rules}
 use Rattle.std.specs.List.{between}
-use Rattle.std.proofs.lemmas.List.{at_drop_more, at_drop_all}
+use Rattle.std.proofs.lemmas.List.{at_drop_more, at_drop_all, take_all}
 use Rattle.orders.specs.Orders.{nothing, read_of, reads, count}
 use Rattle.orders.specs.Held.{held}
 use Rattle.orders.specs.Fills.{order_of}
 use Rattle.progress.specs.Plans.{read_total}
 use Rattle.progress.specs.Handing.{put_at}
-use Rattle.progress.proofs.Handing.{part_next, put_next, take_some}
+use Rattle.progress.proofs.Handing.{part_next, put_next}
 use Rattle.progress.proofs.finished.Finished.hand_over.Goals as goal
 
 pub loop-i-preserved : goal.loop-i-preserved
@@ -24,10 +24,9 @@ loop-i-preserved c =
     c.hand-part-at.ensures.next
     ∙ ap (λ d. cond (read_of d) (min (at + c.segment.result.count) (length bytes)) at) c.segment.ensures.direction
     ∙ ap (λ n. cond (reads here) (min (at + n) (length bytes)) at) c.segment.ensures.count in
-    let rest = read_total (drop (c.loop-i.i + 1) o) in
-    let p = part_next (reads here) (count here) at (length bytes) rest next is inv.0 in (
+    let p = part_next (reads here) (count here) at (length bytes) (read_total (drop (c.loop-i.i + 1) o)) next is inv.0 (omega (arith, inv.1)) in (
       p.1,
-      p.2 ∙ ap (λ n. min (at + n) (length bytes)) (sym more) ∙ inv.1,
+      p.2,
       c.hand-part-at.ensures.after
           ∙ ap (λ l. put_at l at (between at next bytes)) inv.2
           ∙ put_next bytes c.args.buffer.now at next p.0 p.1 (omega (arith, c.requires)),
@@ -37,15 +36,9 @@ pub returns : goal.returns
 returns c =
     let o = order_of c.args.self.now.order in
     let bytes = held c.args.self.now.bytes in
-    let all = take (read_total o) bytes in
     let inv = c.loop-i.invariant in
     let none = at_drop_all read_total o c.loop-i.i (omega arith) in
-    let few : length bytes ≤ 32 = simp length-take (omega (arith, c.args.self.now.bytes.within)) in
-    let end : c.loop-i.at ≡ min (read_total o) (length bytes) = omega (arith, inv.0, inv.1, none) in
-    let count : c.loop-i.at ≡ length all = end ∙ sym (length-take (read_total o) bytes) in
-    let same = take_some (read_total o) c.loop-i.at bytes end in
-    record {
-      count = count;
-      few = omega arith;
-      after = inv.2 ∙ ap (λ l. l ++ drop c.loop-i.at c.args.buffer.now) same ∙ ap (λ n. all ++ drop n c.args.buffer.now) count;
-    }
+    let end : c.loop-i.at ≡ length bytes = omega (arith, inv.0, inv.1) in
+    inv.2
+    ∙ ap (λ n. take n bytes ++ drop n c.args.buffer.now) end
+    ∙ ap (λ l. l ++ drop (length bytes) c.args.buffer.now) (take_all (length bytes) bytes (omega arith))

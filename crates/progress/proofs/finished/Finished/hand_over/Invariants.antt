@@ -1,12 +1,11 @@
-use Rattle.std.proofs.Common.{◌≡◌, ◌+◌, ◌≤◌, min, ◌++◌, length, take, drop}
+use Rattle.std.proofs.Common.{◌≡◌, ◌+◌, ◌≤◌, ◌++◌, length, take, drop}
 use Rattle.orders.specs.Held.{held}
 use Rattle.orders.specs.Fills.{order_of}
 use Rattle.progress.specs.Plans.{read_total}
 use Rattle.progress.proofs.finished.Finished.hand_over.Given as goal
 
--- what is handed over comes, with what is still to come, to all that the order reads, if there are so many
 abbrev pub invariant-loop-i : goal.invariant-loop-i
 invariant-loop-i l =
     (l.at ≤ length (held l.bytes))
-    × (min (l.at + read_total (drop l.i (order_of l.self.order))) (length (held l.bytes)) ≡ min (read_total (order_of l.self.order)) (length (held l.bytes)))
+    × (length (held l.bytes) ≤ l.at + read_total (drop l.i (order_of l.self.order)))
     × (l.buffer ≡ take l.at (held l.bytes) ++ drop l.at l.initial.buffer)
