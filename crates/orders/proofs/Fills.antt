@@ -1,7 +1,7 @@
 -- What the checks of fill give: the table that is written means the order asked for, and it is lawful. Assumes nothing.
-use Rattle.std.proofs.Common.{◌≡◌, ℕ, zero, suc, ◌+◌, ◌-◌, ◌<◌, ◌≤◌, Bool, true, false, cond, ◌&&◌, eqb, leb, List, [], ◌∷◌, ◌++◌, map, length, get_or, take, drop, set, sym, refl, ap, ◌∙◌, arith, length-drop, length-take, rules}
+use Rattle.std.proofs.Common.{◌≡◌, ℕ, zero, suc, ◌+◌, ◌<◌, ◌≤◌, Bool, true, false, cond, ◌&&◌, eqb, leb, List, [], ◌∷◌, ◌++◌, map, length, get_or, take, drop, set, sym, refl, ap, ◌∙◌, arith, length-take, rules}
 use Rattle.std.proofs.lemmas.List.{drop-drop, take_more_set, append_assoc, append-nil, at_drop_more, at_drop_all}
-use Rattle.std.proofs.lemmas.Bool.{leb-true, le-leb, eqb-true, and_parts, and_from}
+use Rattle.std.proofs.lemmas.Bool.{le-leb, and_parts, and_from}
 use Rattle.orders.specs.Orders.{writing, reading, total}
 use Rattle.orders.specs.declared.RawSegment.{RawSegment}
 use Rattle.orders.specs.declared.Segment.{Segment}

@@ -1,5 +1,5 @@
 -- A segment of the table stands for the one of the order. Assumes nothing.
-use Rattle.std.proofs.Common.{◌≡◌, ℕ, zero, suc, ◌+◌, ◌-◌, ◌<◌, ◌≤◌, min, Bool, true, false, cond, ◌&&◌, leb, List, [], ◌∷◌, map, length, get_or, take, drop, sym, refl, ap, ◌∙◌, arith, length-drop, length-take, rules}
+use Rattle.std.proofs.Common.{◌≡◌, ℕ, zero, suc, ◌+◌, ◌<◌, ◌≤◌, Bool, true, ◌&&◌, leb, List, [], ◌∷◌, map, length, get_or, take, drop, sym, refl, ap, ◌∙◌, arith, length-drop, length-take, rules}
 use Rattle.std.proofs.lemmas.List.{get_or-map, get_or_past, get_or-take, get_or-drop, length-map, length-take-le}
 use Rattle.std.proofs.lemmas.Bool.{leb-true, ltb-true, and_parts}
 use Rattle.orders.specs.Orders.{address_of, direction_of, count, AllBytes, bytes_of, nothing, Lawful, Each, LawfulSegment, writing, reading, total}
@@ -7,7 +7,7 @@ use Rattle.orders.specs.Orders as model
 use Rattle.bus.specs.declared.Direction.{Direction}
 use Rattle.bus.specs.declared.Direction.TheVariants.{Write, Read}
 use Rattle.orders.specs.declared.Segment.{Segment}
-use Rattle.orders.specs.Tables.{aimed, meant, lawful, lawful_segment, inside}
+use Rattle.orders.specs.Tables.{meant, lawful, lawful_segment, inside}
 use Rattle.orders.specs.Tests.{every, is_byte}
 
 pub record Stands (bs : List ℕ) (s : Segment) (m : model.Segment) : Type 0 where

@@ -2,11 +2,10 @@
 --     order_of    the order that a struct holds
 --     refused     the first row of the table that refuses, or 0
 --     asked       the order asked for
-use Rattle.std.specs.Prelude.{ℕ, ◌+◌, Bool, true, false, cond, not, ◌&&◌, List, [], ◌∷◌, length, take, drop, ◌==◌, nat_le}
+use Rattle.std.specs.Prelude.{ℕ, ◌+◌, Bool, true, cond, ◌&&◌, List, [], ◌∷◌, length, take, drop, ◌==◌, nat_le}
 use Rattle.orders.specs.Orders.{writing, reading}
 use Rattle.orders.specs.Orders as model
 use Rattle.orders.specs.declared.RawSegment.{RawSegment}
-use Rattle.bus.specs.declared.Direction.{Direction}
 use Rattle.bus.specs.declared.Direction.TheVariants.{Write, Read}
 use Rattle.orders.specs.declared.Segment.{Segment}
 use Rattle.orders.specs.declared.order.Order.{Order}

@@ -3,7 +3,7 @@
 --     meaning    the order that a table and the bytes stand for
 --     lawful     the order is lawful, as a test
 --     inside     a segment's bytes are all there
-use Rattle.std.specs.Prelude.{ℕ, ◌+◌, Bool, true, false, ◌&&◌, leb, List, [], ◌∷◌, map, length, take, drop, nat_le}
+use Rattle.std.specs.Prelude.{ℕ, ◌+◌, Bool, ◌&&◌, leb, List, map, length, take, drop, nat_le}
 use Rattle.orders.specs.Orders.{writing, reading, total}
 use Rattle.orders.specs.Orders as model
 use Rattle.bus.specs.declared.Direction.{Direction}

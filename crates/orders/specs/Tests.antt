@@ -1,7 +1,7 @@
 -- Tests over lists. Assumes nothing.
 --     every      the test holds of each element
 --     is_byte    a number of eight bits
-use Rattle.std.specs.Prelude.{ℕ, Bool, true, false, ◌&&◌, List, [], ◌∷◌, nat_lt}
+use Rattle.std.specs.Prelude.{ℕ, Bool, true, ◌&&◌, List, [], ◌∷◌, nat_lt}
 
 abbrev pub every : {X : Type 0} → (X → Bool) → List X → Bool
 every f [] = true

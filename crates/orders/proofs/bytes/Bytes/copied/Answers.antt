@@ -1,4 +1,4 @@
-use Rattle.std.proofs.Common.{◌≡◌, ◌-◌, take, sym, ◌∙◌}
+use Rattle.std.proofs.Common.{◌-◌, take, ◌∙◌}
 use Rattle.std.proofs.lemmas.List.{take_all}
 use Rattle.orders.specs.Held.{held}
 use Rattle.orders.proofs.Holds.{copied_more, first_32, few_32}

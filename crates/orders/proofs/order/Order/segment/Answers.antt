@@ -1,9 +1,9 @@
-use Rattle.std.proofs.Common.{◌≡◌, ◌<◌, ◌≤◌, length, get_or, take, sym, ◌∙◌, arith, length-take}
+use Rattle.std.proofs.Common.{◌<◌, ◌≤◌, length, take, arith, length-take}
 use Rattle.std.proofs.lemmas.List.{get_or-take}
 use Rattle.bus.specs.declared.Direction.TheVariants.{Write}
 use Rattle.orders.specs.declared.Segment.{Segment}
 use Rattle.orders.specs.Held.{held}
-use Rattle.orders.proofs.Parts.{Stands, stands_used, stands_past}
+use Rattle.orders.proofs.Parts.{stands_used, stands_past}
 use Rattle.orders.proofs.order.Order.segment.Goals as goal
 
 abbrev blank : Segment
