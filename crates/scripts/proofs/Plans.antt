@@ -1,20 +1,18 @@
 -- The plan of an order keeps to the turns, and takes at most its length. Assumes nothing.
-use Rattle.std.proofs.Common.{◌≡◌, ℕ, zero, suc, ◌+◌, ◌*◌, ◌/◌, ◌%◌, ◌^◌, ◌<◌, ◌≤◌, Bool, true, false, cond, eqb, leb, ◌⊎◌, List, [], ◌∷◌, ◌++◌, length, sym, refl, ap, ◌∙◌, subst, inl, inr, suc-le-suc, zero-le, arith, eq-eqb, eqb-true}
+use Rattle.std.proofs.Common.{◌≡◌, ℕ, zero, suc, ◌+◌, ◌*◌, ◌/◌, ◌^◌, ◌≤◌, Bool, true, false, List, [], ◌∷◌, length, sym, refl, ap, ◌∙◌, suc-le-suc, zero-le, arith}
 use borrow.Author.Tests.{clash}
-use Rattle.history.specs.Marks.{Marks, least}
-use Rattle.history.specs.Contest.{Rule, on, Turns, turn_after, Follows, stays, Survives, Polite, Keeps, Then, Alone}
+use Rattle.history.specs.Marks.{least}
+use Rattle.history.specs.Contest.{Rule, on, turn_after, Follows, stays, Survives, Polite, Keeps, Alone}
 use Rattle.bus.specs.declared.Symbol.{Symbol}
 use Rattle.bus.specs.declared.Symbol.TheVariants.{Zero, Stop, Start, One}
-use Rattle.bus.specs.Symbols.{rank, same_rank, symbols, is_bit, is_stop, bit}
-use Rattle.bus.specs.declared.Direction.{Direction}
-use Rattle.bus.specs.declared.Direction.TheVariants as direction
+use Rattle.bus.specs.Symbols.{symbols, is_bit, is_stop, bit}
 use Rattle.bus.specs.declared.Turn.{Turn}
 use Rattle.bus.specs.declared.Turn.TheVariants.{Free, Address, AddressNinth, Border, ClosingBorder, Write, WriteNinth, Read, ReadNinth}
-use Rattle.bus.specs.Turns.{acknowledged, opened, onward, next, masters_slot, legal, busy, bus}
+use Rattle.bus.specs.Turns.{next, masters_slot, legal, busy, bus}
 use Rattle.orders.specs.Orders.{Segment, writing, reading, count, total, LawfulSegment, Each, Order, Lawful}
 use Rattle.scripts.specs.Alone.{longest}
 use Rattle.orders.specs.declared.Outcome.{Outcome}
-use Rattle.orders.specs.declared.Outcome.TheVariants.{Done, NoAddress, NoByte}
+use Rattle.orders.specs.declared.Outcome.TheVariants.{NoAddress, NoByte}
 use Rattle.scripts.specs.Scripts.{Act, say, ask, listen, spell, send, more, hark, receive, body, plan, Notes, Progress, no_notes, noted, blamed, begin, offer, answered_ninth, moved_on, hear, after, script}
 use Rattle.bus.proofs.Slots.{bit_legal, bit_next, slaves_legal, busy_next, own}
 use Rattle.history.proofs.General.{least_left, least_right, polite_on, alone_one}

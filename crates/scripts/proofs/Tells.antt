@@ -1,22 +1,21 @@
 -- Histories tell answers. Assumes nothing.
-use Rattle.std.proofs.Common.{◌≡◌, ℕ, zero, suc, pred, ◌+◌, ◌*◌, ◌/◌, ◌^◌, ◌≤◌, Bool, true, false, cond, List, [], ◌∷◌, ◌++◌, length, sym, refl, ap, ◌∙◌, subst, append_assoc, arith}
-use mathlib.Core.Option.{Option, none, some}
+use Rattle.std.proofs.Common.{◌≡◌, ℕ, zero, suc, pred, ◌+◌, ◌*◌, ◌/◌, ◌^◌, ◌≤◌, Bool, true, false, List, [], ◌∷◌, ◌++◌, length, sym, refl, ap, ◌∙◌, subst, append_assoc, arith}
+use mathlib.Core.Option.{none, some}
 use borrow.Author.Tests.{clash}
 use Rattle.std.proofs.lemmas.List.{append-nil}
-use Rattle.history.specs.Marks.{least}
 use Rattle.history.specs.Contest.{Rule, on, Polite, Then, Alone}
 use Rattle.bus.specs.declared.Symbol.{Symbol}
 use Rattle.bus.specs.declared.Symbol.TheVariants.{Zero, Stop, Start, One}
 use Rattle.bus.specs.Symbols.{symbols, is_bit, is_stop, bit, value}
 use Rattle.bus.specs.declared.Turn.{Turn}
 use Rattle.bus.specs.declared.Turn.TheVariants.{Free, Address, AddressNinth, Border, ClosingBorder, Write, WriteNinth, Read, ReadNinth}
-use Rattle.bus.specs.Turns.{next, masters_slot, legal, busy, bus}
+use Rattle.bus.specs.Turns.{next, legal, busy, bus}
 use Rattle.orders.specs.Orders.{Segment, writing, reading, LawfulSegment, Each, Order, Lawful}
 use Rattle.orders.specs.declared.Outcome.{Outcome}
 use Rattle.orders.specs.declared.Outcome.TheVariants.{Done, NoAddress, NoByte}
 use Rattle.scripts.specs.Scripts.{Act, say, ask, listen, spell, send, more, hark, receive, body, plan, Notes, Progress, no_notes, noted, blamed, begin, after, script}
-use Rattle.scripts.specs.Alone.{is_read, is_eighth, read_bytes, missed, starts, written, or_else, outcome_in}
-use Rattle.history.proofs.General.{least_left, least_right, polite_on, then_both}
+use Rattle.scripts.specs.Alone.{is_read, is_eighth, read_bytes, missed, starts, written, outcome_in}
+use Rattle.history.proofs.General.{least_left, least_right, polite_on}
 use Rattle.bus.proofs.Slots.{busy_next, slaves_legal, bit_next, bit_legal, bit_no_stop}
 use Rattle.scripts.proofs.Plans.{Fits, plan_fits, with_todo}
 
