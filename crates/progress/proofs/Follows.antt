@@ -1,20 +1,18 @@
 -- A position follows the plan of its order. Assumes nothing.
-use Rattle.std.proofs.Common.{◌≡◌, ℕ, zero, suc, ◌+◌, ◌-◌, ◌/◌, ◌^◌, ◌<◌, ◌≤◌, Bool, true, false, cond, not, ◌&&◌, ltb, leb, List, [], ◌∷◌, length, get_or, drop, sym, refl, ap, ◌∙◌, add-one, arith, drop-cons, rules, ltb-false, ltb-true}
+use Rattle.std.proofs.Common.{◌≡◌, ℕ, zero, suc, ◌+◌, ◌-◌, ◌<◌, Bool, true, false, cond, ltb, List, ◌∷◌, length, drop, sym, refl, ap, ◌∙◌, add-one, arith, drop-cons, rules, ltb-false, ltb-true}
 use native.Mathlib.Nat.{sub-zero}
 use borrow.Author.Tests.{clash}
 use Rattle.std.proofs.lemmas.List.{drop_all}
-use Rattle.std.proofs.lemmas.Bool.{and_parts}
 use Rattle.bus.specs.declared.Symbol.{Symbol}
 use Rattle.bus.specs.declared.Symbol.TheVariants.{Zero, Stop, Start, One}
 use Rattle.orders.specs.declared.Outcome.{Outcome}
 use Rattle.orders.specs.declared.Outcome.TheVariants.{NoAddress, NoByte}
-use Rattle.orders.specs.Orders.{Segment, writing, reading, Order, address_of, direction_of, count, reads, bytes_of, nothing}
-use Rattle.scripts.specs.Scripts.{Act, say, ask, listen, spell, send, more, hark, receive, body, plan, offer, Notes, Progress, hear, moved_on, answered_ninth, blamed}
-use Rattle.bus.specs.Symbols.{bit}
+use Rattle.orders.specs.Orders.{Segment, writing, reading, Order, address_of, count, reads, bytes_of, nothing}
+use Rattle.scripts.specs.Scripts.{Act, say, ask, spell, send, more, receive, body, plan, offer, Notes, hear, moved_on, answered_ninth, blamed}
 use Rattle.progress.specs.declared.Stage.{Stage}
 use Rattle.progress.specs.declared.Stage.TheVariants.{Opening, Address, Direction, AddressNinth, Write, WriteNinth, Read, ReadNinth, Closing, Over}
 use Rattle.progress.specs.declared.Position.{Position}
-use Rattle.progress.specs.Positions.{here, heading, resume, unless_one, offer_at, next_at, blame_one, noted_at, sound, part_limit}
+use Rattle.progress.specs.Positions.{here, heading, resume, unless_one, offer_at, next_at, blame_one, noted_at, sound}
 use Rattle.progress.specs.Plans.{others, payload, todo_at, progress_at}
 
 more_is : (n j : ℕ) → cond (ltb j n) Zero One ≡ more (n - j)

@@ -1,8 +1,8 @@
 -- Parts of a buffer written one after another. Assumes nothing.
-use Rattle.std.proofs.Common.{◌≡◌, ℕ, ◌+◌, ◌-◌, ◌<◌, ◌≤◌, min, Bool, true, false, cond, List, [], ◌∷◌, ◌++◌, length, take, drop, sym, refl, ap, ◌∙◌, arith, length-drop, length-take}
+use Rattle.std.proofs.Common.{◌≡◌, ℕ, ◌+◌, ◌-◌, ◌≤◌, min, Bool, true, false, cond, List, [], ◌++◌, length, take, drop, sym, ap, ◌∙◌, arith, length-drop}
 use borrow.Rule.Slice.PartMut.{put_mid}
 use Rattle.std.specs.List.{between}
-use Rattle.std.proofs.lemmas.List.{append_assoc, append_nil, length-take-le, take_rest, take-append-drop, take_at, drop_at, drop-drop, drop_all, drop-take, take-take}
+use Rattle.std.proofs.lemmas.List.{append_assoc, append-nil, length-take-le, take_rest, take-append-drop, take_at, drop_at, drop-drop, drop_all, take-take}
 use Rattle.std.proofs.lemmas.Slice.{between_is}
 use Rattle.progress.specs.Handing.{put_at}
 
@@ -12,7 +12,7 @@ put_part buffer bytes part at fits e =
     let past : drop (length buffer - at) (drop at buffer) ≡ [] = drop-drop (length buffer - at) at buffer ∙ drop_all (at + (length buffer - at)) buffer (omega arith) in
     ap (λ p. take at buffer ++ p) (
     ap (λ d. part ++ d) past
-    ∙ append_nil part
+    ∙ append-nil part
     ∙ e
     ∙ ap (λ d. bytes ++ d) (ap (λ d. drop (length bytes) d) (take_rest buffer at) ∙ drop-drop (length bytes) at buffer))
 

@@ -1,5 +1,5 @@
 -- What a slot makes of a contender's progress. Assumes nothing.
-use Rattle.std.proofs.Common.{◌≡◌, ℕ, ◌+◌, ◌<◌, ◌≤◌, true, length, sym, refl, ap, ◌∙◌, subst, arith}
+use Rattle.std.proofs.Common.{◌≡◌, ◌+◌, ◌<◌, ◌≤◌, true, length, sym, ap, ◌∙◌, subst, arith}
 use Rattle.bus.specs.declared.Symbol.{Symbol}
 use Rattle.scripts.specs.Scripts.{Progress, hear}
 use Rattle.orders.specs.Orders as orders

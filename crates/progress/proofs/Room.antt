@@ -1,12 +1,12 @@
 -- The bytes read have room, and the bits of one fit a byte. Assumes nothing.
-use Rattle.std.proofs.Common.{◌≡◌, ℕ, zero, suc, ◌+◌, ◌-◌, ◌*◌, ◌^◌, ◌<◌, ◌≤◌, Bool, true, false, cond, ltb, List, [], ◌∷◌, ◌++◌, length, sym, refl, ap, ◌∙◌, pow-suc, arith, rules}
+use Rattle.std.proofs.Common.{◌≡◌, ℕ, zero, suc, ◌+◌, ◌-◌, ◌*◌, ◌^◌, ◌<◌, ◌≤◌, Bool, true, false, cond, ltb, List, [], ◌∷◌, length, refl, ◌∙◌, pow-suc, arith, rules}
 use Rattle.std.proofs.lemmas.List.{length_push}
 use Rattle.orders.specs.declared.Outcome.{Outcome}
 use Rattle.bus.specs.declared.Symbol.{Symbol}
 use Rattle.bus.specs.declared.Symbol.TheVariants.{Zero, Stop, Start, One}
 use Rattle.orders.specs.declared.Outcome.TheVariants.{NoAddress, NoByte}
-use Rattle.orders.specs.Orders.{count, reads, bytes_of, Segment, writing, reading, Order, Lawful, total}
-use Rattle.scripts.specs.Scripts.{blamed, Act, say, ask, listen, spell, send, more, hark, receive, body, plan, Notes, Progress, hear, moved_on}
+use Rattle.orders.specs.Orders.{count, reads, writing, reading, Order, Lawful, total}
+use Rattle.scripts.specs.Scripts.{blamed, Act, say, ask, listen, spell, send, more, hark, receive, plan, Notes, moved_on}
 use Rattle.bus.specs.Symbols.{value}
 use Rattle.progress.specs.declared.Stage.{Stage}
 use Rattle.progress.specs.declared.Stage.TheVariants.{Opening, Address, Direction, AddressNinth, Write, WriteNinth, Read, ReadNinth, Closing, Over}

@@ -3,7 +3,7 @@ use Rattle.std.specs.Prelude.{ℕ, cond, List, ◌++◌, length, drop, Ok, Err, 
 use Rattle.refusals.specs.declared.Refusal.{Refusal}
 use Rattle.refusals.specs.declared.Refusal.TheVariants.{ShortBuffer}
 use Rattle.orders.specs.declared.Answer as code
-use Rattle.orders.specs.Orders.{Order, Answer}
+use Rattle.orders.specs.Orders.{Answer}
 use Rattle.scripts.specs.Scripts as model
 use Rattle.orders.specs.Held.{held}
 use Rattle.orders.specs.Fills.{order_of}

@@ -3,7 +3,7 @@
 --     progress_at    position and notes as the order's progress
 --     to_come        how many bytes are yet to be read
 --     read_total     how many bytes an order reads
-use Rattle.std.specs.Prelude.{ℕ, zero, suc, ◌+◌, ◌-◌, Bool, true, false, cond, List, [], ◌∷◌, drop, slice_index}
+use Rattle.std.specs.Prelude.{ℕ, suc, ◌+◌, ◌-◌, true, false, cond, List, [], ◌∷◌, drop, slice_index}
 use Rattle.bus.specs.declared.Symbol.TheVariants.{Stop}
 use Rattle.orders.specs.declared.Outcome.TheVariants.{NoAddress, NoByte}
 use Rattle.orders.specs.Orders.{Segment, writing, reading, Order, address_of, count, reads, bytes_of}

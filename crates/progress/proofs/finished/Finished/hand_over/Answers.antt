@@ -1,4 +1,4 @@
-use Rattle.std.proofs.Common.{◌≡◌, ◌+◌, ◌<◌, ◌≤◌, min, cond, ◌++◌, length, get_or, take, drop, sym, ap, ◌∙◌, arith, length-take, rules}
+use Rattle.std.proofs.Common.{◌≡◌, ◌+◌, ◌<◌, ◌≤◌, min, cond, ◌++◌, length, get_or, take, drop, ap, ◌∙◌, arith, length-take}
 use Rattle.std.specs.List.{between}
 use Rattle.std.proofs.lemmas.List.{at_drop_more, at_drop_all, take_all}
 use Rattle.orders.specs.Orders.{nothing, read_of, reads, count}
@@ -16,18 +16,18 @@ loop-i-preserved c =
     let here = get_or o c.loop-i.i nothing in
     let inv = c.loop-i.invariant in
     let at = c.loop-i.at in
-    let next = c.hand-part-at.result in
+    let next = c.hand_part-at.result in
     let low : c.loop-i.i < length o = omega (arith, c.len-i-end.ensures.len) in
     let more = at_drop_more read_total o c.loop-i.i nothing low in
     let few : length bytes ≤ 32 = simp length-take (omega (arith, c.args.self.now.bytes.within)) in
     let is : next ≡ cond (reads here) (min (at + count here) (length bytes)) at =
-    c.hand-part-at.ensures.next
+    c.hand_part-at.ensures.next
     ∙ ap (λ d. cond (read_of d) (min (at + c.segment.result.count) (length bytes)) at) c.segment.ensures.direction
     ∙ ap (λ n. cond (reads here) (min (at + n) (length bytes)) at) c.segment.ensures.count in
     let p = part_next (reads here) (count here) at (length bytes) (read_total (drop (c.loop-i.i + 1) o)) next is inv.0 (omega (arith, inv.1)) in (
       p.1,
       p.2,
-      c.hand-part-at.ensures.after
+      c.hand_part-at.ensures.after
           ∙ ap (λ l. put_at l at (between at next bytes)) inv.2
           ∙ put_next bytes c.args.buffer.now at next p.0 p.1 (omega (arith, c.requires)),
     )

@@ -5,10 +5,10 @@ use Rattle.progress.proofs.script.Progress.hear.Goals as goal
 pub hear-requires : goal.hear-requires
 hear-requires c = (has_room c.args.self.now, c.args.self.now.fits)
 
-pub invariant-of-self : goal.invariant-of-self
-invariant-of-self c =
+pub invariant_of-self : goal.invariant_of-self
+invariant_of-self c =
     let m = moved c.args.self.now c.args.carried c.next-self.result c.hear.new.self c.next-self.ensures c.hear.ensures in
-    (m.stands, (m.room, (m.fits, tt)))
+    record { stands = m.stands; room = m.room; fits = m.fits }
 
 pub returns : goal.returns
 returns c =
