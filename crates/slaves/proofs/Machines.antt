@@ -1,6 +1,5 @@
 -- A machine that is polite in every state is a slave that keeps the interface's meaning. Assumes nothing.
 use Rattle.std.proofs.Common.{◌≡◌, List, [], ◌∷◌, subst}
-use Rattle.bus.specs.declared.Turn.{Turn}
 use Rattle.bus.specs.Turns.{masters_slot}
 use Rattle.slaves.specs.Slave.{Event, turns_after, befallen, Meek, Well}
 use Rattle.slaves.specs.Machine.{Machine, ends, slave_of}

@@ -4,7 +4,6 @@
 ghost use Rattle.std.specs.Prelude.{◌≡◌};
 ghost use Rattle.bus.specs.Banks.{Bank, Both, All, each, beyond};
 ghost use Rattle.slaves.specs.Slave.{Slave, Heard, Freed, befallen, Well, offered, told, tell};
-ghost use Rattle.std.proofs.Common.{rules};
 
 use bus::{Pair, Symbol};
 use refusals::Refusal;
@@ -41,7 +40,7 @@ pub trait Slaves {
 impl<A: Slaves, B: Slaves> Slaves for Pair<A, B> {
     ghost bank = { λ p. Both (A.Slaves.bank p.left) (B.Slaves.bank p.right) };
 
-    ghost polite = { Prim.search rules };
+    ghost polite = { λ p. (A.Slaves.polite p.left, B.Slaves.polite p.right) };
 
     fn offer(&self) -> Symbol {
         self.left.offer().lesser(self.right.offer())
