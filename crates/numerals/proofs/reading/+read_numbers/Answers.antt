@@ -3,12 +3,12 @@ use Rattle.books.specs.Marks.{marked}
 use Rattle.numerals.proofs.Words.{First, cut, join_last, whole_slice, some_number, from_0, to_0, marked_one}
 use Rattle.numerals.proofs.reading.+read_numbers.Goals as goal
 
-pub returns-in-default : goal.returns-in-default
-returns-in-default t c =
+pub returns-in_default : goal.returns-in_default
+returns-in_default t c =
     let line = c.args.line.now in
-    let f : First line c.first-space-i.result = record { within = c.first-space-i.ensures.within; before = c.first-space-i.ensures.before; found = c.first-space-i.ensures.found } in
+    let f : First line c.first_space-i.result = record { within = c.first_space-i.ensures.within; before = c.first_space-i.ensures.before; found = c.first_space-i.ensures.found } in
     record {
-      cases = λ ns r. let w = cut line ns c.first-space-i.result f r in absurd (c.in-default.ensures w.value (to_0 line c.first-space-i.result w.value w.word));
+      cases = λ ns r. let w = cut line ns c.first_space-i.result f r in absurd (c.in_default.ensures w.value (to_0 line c.first_space-i.result w.value w.word));
       long = refl;
       named = refl;
     }
@@ -24,7 +24,7 @@ pub returns-then-i-line : goal.returns-then-i-line
 returns-then-i-line t c =
     let line = c.args.line.now in
     let book = c.args.book.now in
-    let i = c.first-space-i.result in
+    let i = c.first_space-i.result in
     let m = c.mark.ensures in
     let room : book.used < length book.places.now = omega (arith, c.left.ensures, c.if-left-eq0.false) in
     record {
@@ -42,16 +42,16 @@ returns t c =
     let line = c.args.line.now in
     let book = c.args.book.now in
     let new = c.mark.new.self in
-    let i = c.first-space-i.result in
+    let i = c.first_space-i.result in
     let m = c.mark.ensures in
-    let e = c.first-space-i.ensures in
+    let e = c.first_space-i.ensures in
     let f : First line i = record { within = e.within; before = e.before; found = e.found } in
     let room : book.used < length book.places.now = omega (arith, c.left.ensures, c.if-left-eq0.false) in
     record {
       cases =
-          whole_slice line c.in-Some.n i c.read-numbers.result (marked book.places.now book.used) (marked new.places.now new.used) _
+          whole_slice line c.in-Some.n i c.read_numbers.result (marked book.places.now book.used) (marked new.places.now new.used) _
           book.used new.used (length book.places.now) (length new.places.now) (is_ok c.mark.result) f c.if-i-line.false c.in-Some.ensures
-          m.test room m.used m.long m.marks c.read-numbers.ensures.cases;
-      long = c.read-numbers.ensures.long ∙ m.long;
-      named = c.read-numbers.ensures.named ∙ m.named;
+          m.test room m.used m.long m.marks c.read_numbers.ensures.cases;
+      long = c.read_numbers.ensures.long ∙ m.long;
+      named = c.read_numbers.ensures.named ∙ m.named;
     }

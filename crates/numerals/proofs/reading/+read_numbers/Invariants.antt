@@ -1,5 +1,5 @@
 use Rattle.std.proofs.Common.{length}
 use Rattle.numerals.proofs.reading.+read_numbers.Given as goal
 
-abbrev pub decreases-read-numbers : goal.decreases-read-numbers
-decreases-read-numbers l = length l.line.now
+abbrev pub decreases-read_numbers : goal.decreases-read_numbers
+decreases-read_numbers l = length l.line.now

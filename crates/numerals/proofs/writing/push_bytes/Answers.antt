@@ -5,7 +5,7 @@ use Rattle.numerals.proofs.writing.push_bytes.Goals as goal
 pub loop-b-preserved : goal.loop-b-preserved
 loop-b-preserved c =
     let out = string_bytes c.loop-b.out in
-    let pushed = c.in-ok-push-number.ensures ∙ ap (λ (n : ℕ). out ++ (32 ∷ decimal n)) c.from.ensures in
+    let pushed = c.in_ok-push_number.ensures ∙ ap (λ (n : ℕ). out ++ (32 ∷ decimal n)) c.from.ensures in
     push_more out _ _ c.args.bytes.now c.loop-b.b-index c.loop-b-test.true pushed c.loop-b.invariant
 
 pub returns : goal.returns

@@ -7,5 +7,5 @@ pub returns : goal.returns
 returns c =
     let ms = c.args.more.now in
     let ns = c.args.bytes.now in
-    let front = c.in-ok-push-numbers.ensures ∙ ap (λ (t : List ℕ). t ++ further ms) c.in-ok-out.ensures.ok in
-    push_both (decimal c.args.first) ms ns _ (c.in-ok-push-bytes.ensures ∙ ap (λ (t : List ℕ). t ++ further ns) front)
+    let front = c.in_ok-push_numbers.ensures ∙ ap (λ (t : List ℕ). t ++ further ms) c.in_ok-out.ensures.ok in
+    push_both (decimal c.args.first) ms ns _ (c.in_ok-push_bytes.ensures ∙ ap (λ (t : List ℕ). t ++ further ns) front)
