@@ -196,15 +196,13 @@ abbrev rank_of : Slot → ℕ
 rank_of s = rank s.symbol
 
 pub continues : (c : Call) (w v : Model) (rs : List ℕ) → v ≡ does c w → rs ≡ ranks (moves c w) → Continues w c rs v
-continues c w v rs e r = record {
-  since = λ ms ss well cs l.
-      let w₀ = assembled ms ss in
-      record {
-        leads = final_more cs c w₀ ∙ ap (does c) l ∙ sym e;
-        marks =
-            ap ranks (slots_more cs c w₀) ∙ map-append rank_of (slots w₀ cs) (moves c (final w₀ cs))
-            ∙ ap (λ (u : Model). ranks (slots w₀ cs) ++ ranks (moves c u)) l
-            ∙ ap (λ (l : List ℕ). ranks (slots w₀ cs) ++ l) (sym r);
-        law = always ms ss well (cs ++ (c ∷ []));
-      };
-}
+continues c w v rs e r ms ss well cs l =
+    let w₀ = assembled ms ss in
+    record {
+      leads = final_more cs c w₀ ∙ ap (does c) l ∙ sym e;
+      marks =
+          ap ranks (slots_more cs c w₀) ∙ map-append rank_of (slots w₀ cs) (moves c (final w₀ cs))
+          ∙ ap (λ (u : Model). ranks (slots w₀ cs) ++ ranks (moves c u)) l
+          ∙ ap (λ (l : List ℕ). ranks (slots w₀ cs) ++ l) (sym r);
+      law = always ms ss well (cs ++ (c ∷ []));
+    }

@@ -112,8 +112,8 @@ pub record Law (w : Model) (cs : List Call) : Type 0 where
   -- all masters and slaves are where the slots moved so far lead from a free bus
   pub together : All (λ (m : Master). m.turn ≡ bus_after (slots w cs)) (final w cs).masters × All (λ (s : Slave). s.turn ≡ bus_after (slots w cs)) (final w cs).slaves
 
-pub record Always (w : Model) : Type 0 where
-  pub after : (cs : List Call) → Law w cs
+abbrev pub Always : Model → Type 0
+Always w = (cs : List Call) → Law w cs
 
 -- the calls cs on the assembled bench w₀, and then c, which returned or marked those ranks, lead to v, and the law holds of them
 pub record Continued (w₀ : Model) (cs : List Call) (c : Call) (rs : List ℕ) (v : Model) : Type 0 where
@@ -121,8 +121,9 @@ pub record Continued (w₀ : Model) (cs : List Call) (c : Call) (rs : List ℕ) 
   pub marks : ranks (slots w₀ (cs ++ (c ∷ []))) ≡ ranks (slots w₀ cs) ++ rs
   pub law : Law w₀ (cs ++ (c ∷ []))
 
-pub record Continues (w : Model) (c : Call) (rs : List ℕ) (v : Model) : Type 0 where
-  pub since : (ms : Bank Master) (ss : Bank Slave) → All Well ss → (cs : List Call) → final (assembled ms ss) cs ≡ w → Continued (assembled ms ss) cs c rs v
+abbrev pub Continues : Model → Call → List ℕ → Model → Type 0
+Continues w c rs v =
+    (ms : Bank Master) (ss : Bank Slave) → All Well ss → (cs : List Call) → final (assembled ms ss) cs ≡ w → Continued (assembled ms ss) cs c rs v
 
 -- the law holds of whatever is assembled of slaves that keep to the turns, and goes on with every call, whatever it marks in a book
 pub record ContestsAreLawful : Type 0 where

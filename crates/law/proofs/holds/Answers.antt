@@ -7,7 +7,7 @@ use Rattle.law.proofs.holds.Goals as goal
 
 pub returns : goal.returns
 returns c = record {
-  always = λ ms ss w well e. subst Always (sym e) (record { after = always ms ss well });
+  always = λ ms ss w well e. subst Always (sym e) (always ms ss well);
   continues = continues;
   marks = λ c w v before after e m. continues c w v (grown before after) e (grown_by before (ranks (moves c w)) after m);
 }
