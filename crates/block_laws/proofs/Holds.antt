@@ -4,7 +4,6 @@ use borrow.Author.Tests.{clash}
 use Rattle.std.proofs.lemmas.Bool.Decides.{nat_tests}
 use Rattle.bus.specs.declared.Symbol.{Symbol}
 use Rattle.bus.specs.declared.Symbol.TheVariants.{Stop, Start, One}
-use Rattle.bus.specs.declared.Turn.TheVariants.{Write}
 use Rattle.bus.specs.Turns.{masters_slot}
 use Rattle.block.specs.declared.Block.{Block}
 use Rattle.block.specs.Slots.{same}
