@@ -5,15 +5,15 @@ use Rattle.reader.specs.Refusals.{against, unfinished}
 use Rattle.reader.proofs.Checking.{checked_on, checked_offends, checked_whole, checked_unfinished, checked_place, whole_offends, whole_unfinished}
 use Rattle.reader.proofs.checks.check.Goals as goal
 
-pub returns-in-default-follow : goal.returns-in-default-follow
-returns-in-default-follow c =
+pub returns-in_default-follow : goal.returns-in_default-follow
+returns-in_default-follow c =
     let left = c.loop-left.left.now in
     let some : 0 < length left = search rules in
-    let o = checked_offends c.args.slots.now left _ c.loop-left.turn c.loop-left.place _ c.loop-left.invariant (first_rest left 0 some) c.in-default-follow.ensures in
+    let o = checked_offends c.args.slots.now left _ c.loop-left.turn c.loop-left.place _ c.loop-left.invariant (first_rest left 0 some) c.in_default-follow.ensures in
     record { cases = against c.loop-left.place o; exactly = λ w. absurd (whole_offends c.args.slots.now c.loop-left.place w o) }
 
-pub overflow-add-place : goal.overflow-add-place
-overflow-add-place c =
+pub overflow_add-place : goal.overflow_add-place
+overflow_add-place c =
     let left = c.loop-left.left.now in
     let e = checked_place c.args.slots.now left c.loop-left.turn c.loop-left.place c.loop-left.invariant in
     search rules
@@ -24,8 +24,8 @@ loop-left-preserved c =
     let some : 0 < length left = search rules in
     checked_on c.args.slots.now left _ c.loop-left.turn c.in-Some.next c.loop-left.place _ c.loop-left.invariant (first_rest left 0 some) c.in-Some.ensures
 
-pub returns-then-is-busy : goal.returns-then-is-busy
-returns-then-is-busy c =
+pub returns-then-is_busy : goal.returns-then-is_busy
+returns-then-is_busy c =
     let left = c.loop-left.left.now in
     let none : left ≡ [] = nil_from_length left (search rules) in
     let u = checked_unfinished c.args.slots.now left c.loop-left.turn c.loop-left.place c.loop-left.invariant none (search rules) in

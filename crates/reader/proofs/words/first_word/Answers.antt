@@ -14,13 +14,13 @@ returns-in-1 c =
     let some : 1 ≤ length slots = search rules in
     record { takes = take_stop slots c.args.place some (search rules); within = (omega arith, some) }
 
-pub returns-in-default : goal.returns-in-default
-returns-in-default c = record { takes = λ b f. take_end c.args.slots.now c.args.place (search rules) b; within = tt }
+pub returns-in_default : goal.returns-in_default
+returns-in_default c = record { takes = λ b f. take_end c.args.slots.now c.args.place (search rules) b; within = tt }
 
-pub returns-in-default-first-chunk : goal.returns-in-default-first-chunk
-returns-in-default-first-chunk c =
+pub returns-in_default-first_chunk : goal.returns-in_default-first_chunk
+returns-in_default-first_chunk c =
     let slots = c.args.slots.now in
-    let short : length slots < 9 = c.in-default-first-chunk.ensures.cases in
+    let short : length slots < 9 = c.in_default-first_chunk.ensures.cases in
     record { takes = take_none slots c.args.place short (λ some e. search rules) (λ some e. search rules); within = tt }
 
 pub returns-in-Some : goal.returns-in-Some

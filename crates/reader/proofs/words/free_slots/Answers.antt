@@ -8,8 +8,8 @@ loop-left-preserved c =
     let some : 0 < length left = search rules in
     skipped_first c.args.slots.now left c.loop-left.n c.loop-left.invariant some c.if-first-ne3.false
 
-pub returns-in-default : goal.returns-in-default
-returns-in-default c =
+pub returns-in_default : goal.returns-in_default
+returns-in_default c =
     let left = c.loop-left.left.now in
     let none : length left ≤ 0 = search rules in
     let idle : c.args.busy ≡ false = search rules in

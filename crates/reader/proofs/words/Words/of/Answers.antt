@@ -4,5 +4,5 @@ use Rattle.reader.proofs.words.Words.of.Goals as goal
 
 pub returns : goal.returns
 returns c =
-    let w = whole_words c.args.slots.now c.in-ok-check.ensures.cases in
+    let w = whole_words c.args.slots.now c.in_ok-check.ensures.cases in
     record { cases = (w.0, w.1, w.1.reads); exactly = λ _. refl }
