@@ -1,13 +1,11 @@
 -- What the reader has of a history that is spelt in items. Assumes nothing.
 use Rattle.std.proofs.Common.{◌≡◌, ℕ, suc, ◌+◌, ◌*◌, ◌^◌, ◌≤◌, Bool, true, false, cond, eqb, List, [], ◌∷◌, ◌++◌, length, sym, refl, ap, ◌∙◌, subst, inl, inr, arith, length-append, eq-eqb}
-use borrow.Author.Tests.{clash}
 use Rattle.std.proofs.lemmas.List.{take_at, get_or_at, get_or-append_right, map-append}
 use Rattle.history.specs.Marks.{least}
 use Rattle.history.specs.Contest.{Rule, on, Follows, turn_after, Polite, Keeps, Then, Alone}
 use Rattle.bus.specs.Symbols.{rank, symbols, is_stop, heading_bit}
 use Rattle.bus.specs.Turns.{next, masters_slot, legal, busy, bus}
 use Rattle.bus.specs.declared.Symbol.{Symbol}
-use Rattle.bus.specs.declared.Symbol.TheVariants.{Zero, Stop, Start, One}
 use Rattle.bus.specs.declared.Turn.{Turn}
 use Rattle.bus.specs.declared.Turn.TheVariants.{Free}
 use Rattle.bus.proofs.Slots.{is_it_stop}
