@@ -3,7 +3,7 @@
 --     Chip        a port and its device's bytes
 --     chip_offer  what it offers: an acknowledge of its address and of each accepted byte, and the byte at its place, highest bit first
 --     chip_step   what an event makes of it
-use Rattle.std.specs.Prelude.{◌≡◌, ℕ, zero, suc, ◌+◌, ◌*◌, ◌/◌, ◌%◌, ◌^◌, Bool, true, false, cond, ◌&&◌, List, length, ◌==◌, slice_index, refl}
+use Rattle.std.specs.Prelude.{◌≡◌, ℕ, ◌+◌, ◌*◌, ◌/◌, ◌%◌, ◌^◌, Bool, true, false, cond, ◌&&◌, length, ◌==◌, slice_index, refl}
 use Rattle.std.proofs.Common.{length-set}
 use Rattle.bus.specs.declared.Symbol.{Symbol}
 use Rattle.bus.specs.declared.Symbol.TheVariants.{Zero, Stop, Start, One}

@@ -1,7 +1,7 @@
 -- Bytes with a place among them, and what a device makes of the bytes that go by. Assumes nothing.
 --     Store    the bytes of a device, and the place that is read next
 --     Rule     which written bytes are accepted, what an accepted one does, what a byte that was sent does
-use Rattle.std.specs.Prelude.{◌≡◌, ℕ, Bool, List, length, set, slice_set}
+use Rattle.std.specs.Prelude.{◌≡◌, ℕ, Bool, List, length, slice_set}
 
 pub record Store : Type 0 where
   pub bytes : List ℕ
