@@ -1,6 +1,6 @@
 -- A number by its bits, highest first: as a chip gathers them, and as a contender notes them. Assumes nothing.
 use Rattle.std.proofs.Common.{◌≡◌, ℕ, zero, suc, ◌+◌, ◌*◌, ◌/◌, ◌%◌, ◌^◌, ◌<◌, ◌≤◌, Bool, true, false, cond, eqb, sym, refl, ap, ◌∙◌, mul_assoc, add-mul, pow-suc, arith, shr-shr, eqb-true}
-use lib.Pow.{mod-pow-add, shr_le}
+use lib.Pow.{shr_le}
 use borrow.Author.Tests.{eqb-false}
 use Rattle.scripts.proofs.Framing.{bit_split}
 use Rattle.bus.specs.declared.Symbol.TheVariants.{Zero, One}
