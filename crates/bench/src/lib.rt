@@ -1,4 +1,4 @@
-// A bench of masters and slaves, its six calls, and the law that holds of them. A call of `law::holds` brings the theorem; it does nothing.
+// A bench of masters and slaves, its six calls, and the law of contests. A call of `law::holds` brings the theorem; it does nothing.
 #![tactic(auto)]
 
 ghost use Rattle.std.specs.Prelude.{◌≡◌, [], ◌∷◌, ◌++◌, ◌+◌, ◌-◌, ◌≤◌, length};
@@ -33,6 +33,14 @@ impl<M: Masters, S: Slaves> Bench<M, S> {
         ensures { All Well (S.Slaves.bank slaves.now) }
     {}
 
+    fn joined(mut masters: M, mut slaves: S) -> Self
+        ensures { model M.Masters S.Slaves result ≡ assembled (M.Masters.bank masters) (S.Slaves.bank slaves) }
+    {
+        masters.free();
+        slaves.free();
+        Bench { masters, slaves }
+    }
+
     // Moves one slot: all hear what it carries.
     fn slot(&mut self) -> Symbol
         ensures symbol { result ≡ carried (model M.Masters S.Slaves self.old) }
@@ -42,6 +50,42 @@ impl<M: Masters, S: Slaves> Bench<M, S> {
         self.masters.hear(symbol);
         self.slaves.hear(symbol);
         symbol
+    }
+
+    fn slot_rank(&mut self) -> u8
+        ensures rank { result ≡ rank_of (carried (model M.Masters S.Slaves self.old)) }
+        ensures after { model M.Masters S.Slaves self.new ≡ moved (model M.Masters S.Slaves self.old) }
+    {
+        self.slot().rank()
+    }
+
+    fn put(&mut self, number: usize, order: Order) -> Result<(), Refusal>
+        ensures answer { result ≡ m.place_answer number (model M.Masters S.Slaves self.old).masters }
+        ensures after { model M.Masters S.Slaves self.new ≡ does (Place number order) (model M.Masters S.Slaves self.old) }
+    {
+        self.masters.place(number, order)
+    }
+
+    fn take_back(&mut self, number: usize) -> Result<(), Refusal>
+        ensures answer { result ≡ m.withdraw_answer number (model M.Masters S.Slaves self.old).masters }
+        ensures after { model M.Masters S.Slaves self.new ≡ does (Withdraw number) (model M.Masters S.Slaves self.old) }
+    {
+        self.masters.withdraw(number)
+    }
+
+    fn set(&mut self, number: usize, place: usize, byte: u8) -> Result<(), Refusal>
+        ensures answer { result ≡ s.told number place (model M.Masters S.Slaves self.old).slaves }
+        ensures after { model M.Masters S.Slaves self.new ≡ does (Tell number place byte) (model M.Masters S.Slaves self.old) }
+    {
+        self.slaves.tell(number, place, byte)
+    }
+
+    fn hand_over(&mut self, number: usize, buffer: &mut [u8]) -> Result<Answer, Refusal>
+        ensures answer { result ≡ m.collect_answer number (length buffer.old) (model M.Masters S.Slaves self.old).masters }
+        ensures bytes { buffer.new ≡ m.collect_into number buffer.old (model M.Masters S.Slaves self.old).masters }
+        ensures after { model M.Masters S.Slaves self.new ≡ does (Collect number (length buffer.old)) (model M.Masters S.Slaves self.old) }
+    {
+        self.masters.collect(number, buffer)
     }
 
     // Moves one slot and marks its rank.
@@ -54,8 +98,8 @@ impl<M: Masters, S: Slaves> Bench<M, S> {
         ensures long { length book.new.places.now ≡ length book.old.places.now }
         ensures named { book.new.places.ghost_name ≡ book.old.places.ghost_name }
     {
-        let symbol = self.slot();
-        let _ = book.mark(symbol.rank());
+        let slot = self.slot_rank();
+        let _ = book.mark(slot);
     }
 
     // Moves slots until there are `n`, or nobody waits, and marks them; a book with room for them.
@@ -77,16 +121,32 @@ impl<M: Masters, S: Slaves> Bench<M, S> {
         k
     }
 
-    // Puts masters and slaves on one free bus. The law holds of every list of calls from here.
-    pub fn assemble(mut masters: M, mut slaves: S) -> Self
+    fn run_within(&mut self, n: usize, book: &mut Book<u8>) -> Result<usize, Refusal>
+        ensures answer { result ≡ run_answer n (length book.old.places.now - book.old.used) (model M.Masters S.Slaves self.old) }
+        ensures after { model M.Masters S.Slaves self.new ≡ does (Run n (length book.old.places.now - book.old.used)) (model M.Masters S.Slaves self.old) }
+        ensures marks { marked book.new.places.now book.new.used ≡ marked book.old.places.now book.old.used ++ ranks (moves (Run n (length book.old.places.now - book.old.used)) (model M.Masters S.Slaves self.old)) }
+        ensures used { book.new.used ≡ book.old.used + length (moves (Run n (length book.old.places.now - book.old.used)) (model M.Masters S.Slaves self.old)) }
+        ensures rest { blank book.new.places.now book.new.used ≡ blank book.old.places.now book.new.used }
+        ensures long { length book.new.places.now ≡ length book.old.places.now }
+        ensures named { book.new.places.ghost_name ≡ book.old.places.ghost_name }
+    {
+        if n > 999 {
+            return Err(Refusal::LongRun);
+        }
+        if book.left() < n {
+            return Err(Refusal::FullBook);
+        }
+        Ok(self.run_slots(n, book))
+    }
+
+    // Puts masters and slaves on one free bus. The law of contests holds of every list of calls from here.
+    pub fn assemble(masters: M, slaves: S) -> Self
         ensures made { model M.Masters S.Slaves result ≡ assembled (M.Masters.bank masters) (S.Slaves.bank slaves) }
         ensures law { Always (model M.Masters S.Slaves result) }
     {
         law::holds();
         Self::keeps_to_the_turns(&slaves);
-        masters.free();
-        slaves.free();
-        Bench { masters, slaves }
+        Bench::joined(masters, slaves)
     }
 
     // Moves one slot, and returns its rank.
@@ -96,7 +156,7 @@ impl<M: Masters, S: Slaves> Bench<M, S> {
         ensures law { Continues (model M.Masters S.Slaves self.old) Step (result ∷ []) (model M.Masters S.Slaves self.new) }
     {
         law::holds();
-        self.slot().rank()
+        self.slot_rank()
     }
 
     // Moves slots until there are `n`, or the bus is free and nobody waits; marks their ranks, and says how many.
@@ -111,13 +171,7 @@ impl<M: Masters, S: Slaves> Bench<M, S> {
         ensures law { Continues (model M.Masters S.Slaves self.old) (Run n (length book.old.places.now - book.old.used)) (grown (marked book.old.places.now book.old.used) (marked book.new.places.now book.new.used)) (model M.Masters S.Slaves self.new) }
     {
         law::holds();
-        if n > 999 {
-            return Err(Refusal::LongRun);
-        }
-        if book.left() < n {
-            return Err(Refusal::FullBook);
-        }
-        Ok(self.run_slots(n, book))
+        self.run_within(n, book)
     }
 
     // Gives an order to the master with this number, if it is idle.
@@ -127,7 +181,7 @@ impl<M: Masters, S: Slaves> Bench<M, S> {
         ensures law { Continues (model M.Masters S.Slaves self.old) (Place number order) [] (model M.Masters S.Slaves self.new) }
     {
         law::holds();
-        self.masters.place(number, order)
+        self.put(number, order)
     }
 
     // Makes the master with this number idle, if it waits and the bus is free.
@@ -137,7 +191,7 @@ impl<M: Masters, S: Slaves> Bench<M, S> {
         ensures law { Continues (model M.Masters S.Slaves self.old) (Withdraw number) [] (model M.Masters S.Slaves self.new) }
     {
         law::holds();
-        self.masters.withdraw(number)
+        self.take_back(number)
     }
 
     // Sets one byte of the slave with this number, if the bus is free.
@@ -147,7 +201,7 @@ impl<M: Masters, S: Slaves> Bench<M, S> {
         ensures law { Continues (model M.Masters S.Slaves self.old) (Tell number place byte) [] (model M.Masters S.Slaves self.new) }
     {
         law::holds();
-        self.slaves.tell(number, place, byte)
+        self.set(number, place, byte)
     }
 
     // Hands over the answer of the master with this number, once; the bytes read go to the front of the buffer.
@@ -158,7 +212,7 @@ impl<M: Masters, S: Slaves> Bench<M, S> {
         ensures law { Continues (model M.Masters S.Slaves self.old) (Collect number (length buffer.old)) [] (model M.Masters S.Slaves self.new) }
     {
         law::holds();
-        self.masters.collect(number, buffer)
+        self.hand_over(number, buffer)
     }
 
     // Takes the bench apart.
