@@ -1,13 +1,12 @@
 // The program `key`: a bench of two masters, a gauge and a memory, worked by lines.
 #![tactic(auto)]
 
-use anyhow::impls::*;
 use key_lines::Session;
 
 mod parts;
 mod stream;
 
-fn run(rt: &HostRuntime) -> anyhow::Result<()> {
+fn run(rt: &(impl Input + Print + AllocGlobal)) -> anyhow::Result<()> {
     let mut session = Session::new(parts::key_bench());
     let done = stream::answer_all(rt, &mut session);
     let (masters, slaves) = session.end().take_apart();

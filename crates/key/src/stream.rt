@@ -1,18 +1,18 @@
 // Lines in and lines out, in memory that does not grow with the input.
-use anyhow::impls::*;
 use key_lines::Session;
 use masters::Masters;
 use numerals::Kept;
 use slaves::Slaves;
 use std::alloc::Global;
-use std::io::{BufWriter, Read, Stdout, Write};
+use std::io;
+use std::io::{BufWriter, Read, Write};
 
 // Writes the output line for one input line.
 fn answer<M: Masters, S: Slaves>(
     heap: Global,
     session: &mut Session<M, S>,
     kept: &Kept,
-    output: &mut BufWriter<Stdout>,
+    output: &mut impl Write,
 ) -> anyhow::Result<()> {
     let text = session.answer(heap, kept.line())?;
     output.write_all(text.as_bytes())?;
@@ -22,12 +22,12 @@ fn answer<M: Masters, S: Slaves>(
 
 // Answers line after line; the last one may lack its line feed.
 pub(crate) fn answer_all<M: Masters, S: Slaves>(
-    rt: &HostRuntime,
+    rt: &(impl Input + Print + AllocGlobal),
     session: &mut Session<M, S>,
 ) -> anyhow::Result<()> {
     let heap = rt.alloc();
-    let mut input = rt.stdin();
-    let mut output = BufWriter::new(heap, rt.stdout())?;
+    let mut input = rt.reader();
+    let mut output = BufWriter::new(heap, io::writer(rt))?;
     let mut kept = Kept::new();
     let mut open = false;
     for _ in 0..u64::MAX {

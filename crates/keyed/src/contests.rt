@@ -1,7 +1,6 @@
 // Contests of two masters on a bench with a gauge at 72 and a memory at 80, all bytes 0.
 use crate::show;
 use anyhow::anyhow;
-use anyhow::impls::*;
 use bench::Bench;
 use bus::{Pair, Symbol, Turn};
 use chips::{Gauge, Memory};
@@ -224,7 +223,7 @@ fn place<M: Masters>(
 
 // The first contest of the two orders; whether it is as expected.
 pub fn compare<A: Masters + Drop, B: Masters + Drop>(
-    rt: &HostRuntime,
+    rt: &(impl Print + AllocGlobal),
     makes: &str,
     first: A,
     second: B,
@@ -271,7 +270,7 @@ fn made(address: u16) -> u8 {
     }
 }
 
-pub fn refusals(rt: &HostRuntime) -> anyhow::Result<bool> {
+pub fn refusals(rt: &(impl Print + AllocGlobal)) -> anyhow::Result<bool> {
     let heap = rt.alloc();
     let orders = format!(in heap;
         "{} {} {} {}",

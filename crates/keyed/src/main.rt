@@ -5,7 +5,6 @@ mod contests;
 mod status;
 
 use anyhow::anyhow;
-use anyhow::impls::*;
 use driver::Driver;
 use line::Line;
 use std::io;
@@ -18,12 +17,12 @@ fn equal(expected: &str, came: &str) -> bool {
     expected == came
 }
 
-fn print(rt: &HostRuntime, what: &str, expected: &str, came: &str) -> io::Result<()> {
+fn print(rt: &impl Print, what: &str, expected: &str, came: &str) -> io::Result<()> {
     println!(rt; "  {what}: expected {expected}; came {came}")
 }
 
 // What was expected and what came; whether they are the same.
-fn show(rt: &HostRuntime, what: &str, expected: &str, came: &str) -> io::Result<bool> {
+fn show(rt: &impl Print, what: &str, expected: &str, came: &str) -> io::Result<bool> {
     print(rt, what, expected, came)?;
     let same = equal(expected, came);
     println!(rt; "    {}", verdict(same))?;
@@ -31,7 +30,7 @@ fn show(rt: &HostRuntime, what: &str, expected: &str, came: &str) -> io::Result<
 }
 
 // Each question, with the masters of those makes; whether all came as expected.
-fn asked(rt: &HostRuntime) -> anyhow::Result<bool> {
+fn asked(rt: &(impl Print + AllocGlobal)) -> anyhow::Result<bool> {
     let mut same = true;
     for number in 0..contests::COUNT {
         let Some(question) = contests::numbered(number) else {
@@ -54,7 +53,7 @@ fn asked(rt: &HostRuntime) -> anyhow::Result<bool> {
     Ok(same)
 }
 
-fn run(rt: &HostRuntime) -> anyhow::Result<()> {
+fn run(rt: &(impl Print + AllocGlobal)) -> anyhow::Result<()> {
     let contests = asked(rt)?;
     println!(rt; "refusals")?;
     let refusals = contests::refusals(rt)?;

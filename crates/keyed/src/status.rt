@@ -1,7 +1,6 @@
 // The status of a register master, slot by slot.
 use crate::contests::{Ask, accepted, order};
 use crate::show;
-use anyhow::impls::*;
 use bus::Symbol;
 use chips::Gauge;
 use driver::Driver;
@@ -49,7 +48,7 @@ fn after<S: Slaves>(
 
 // A register master with one order, and perhaps a line master with another, at a gauge whose registers are 0.
 fn row(
-    rt: &HostRuntime,
+    rt: &(impl Print + AllocGlobal),
     what: &str,
     asked: [Ask; 2],
     slots: [u8; 3],
@@ -69,7 +68,7 @@ fn row(
     Ok(show(rt, what, expected, came.as_str())?)
 }
 
-pub fn rows(rt: &HostRuntime) -> anyhow::Result<bool> {
+pub fn rows(rt: &(impl Print + AllocGlobal)) -> anyhow::Result<bool> {
     let write = Ask::WriteOne {
         address: 72,
         byte: 1,

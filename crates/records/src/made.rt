@@ -1,5 +1,4 @@
 // Records, slot by slot: S, P, 0 and 1; a space divides bytes and means nothing, x is no symbol.
-use anyhow::impls::*;
 use std::alloc::{AllocError, Global};
 
 // A read of one byte of 72: 25, which the master does not acknowledge.

@@ -3,7 +3,6 @@
 
 mod made;
 
-use anyhow::impls::*;
 use books::Book;
 use bus::Direction;
 use made::{CUT_OFF, READ, RECORDS, REPEATED_START};
@@ -11,7 +10,7 @@ use reader::{Kind, Listed, Word, Words, acknowledged, address, direction, list, 
 use refusals::Refusal;
 
 // A refusal: its number, and the place of an offence.
-fn refuse(rt: &HostRuntime, refusal: Refusal) -> anyhow::Result<()> {
+fn refuse(rt: &impl Print, refusal: Refusal) -> anyhow::Result<()> {
     match refusal {
         Refusal::AgainstTurns { place } => println!(rt; "{} at {place}", refusal.number())?,
         _ => println!(rt; "{}", refusal.number())?,
@@ -20,7 +19,7 @@ fn refuse(rt: &HostRuntime, refusal: Refusal) -> anyhow::Result<()> {
 }
 
 // A byte: after a start the address and direction, else the value; + where it is acknowledged, - where not.
-fn show_byte(rt: &HostRuntime, place: usize, slots: &[u8; 9], first: bool) -> anyhow::Result<()> {
+fn show_byte(rt: &impl Print, place: usize, slots: &[u8; 9], first: bool) -> anyhow::Result<()> {
     let ninth = if acknowledged(slots) { '+' } else { '-' };
     if first {
         let way = match direction(slots) {
@@ -35,7 +34,7 @@ fn show_byte(rt: &HostRuntime, place: usize, slots: &[u8; 9], first: bool) -> an
 }
 
 // Each word with its place.
-fn show_words(rt: &HostRuntime, mut words: Words) -> anyhow::Result<()> {
+fn show_words(rt: &impl Print, mut words: Words) -> anyhow::Result<()> {
     let mut first = false;
     print!(rt; "0")?;
     while let Some(word) = words.next_word() {
@@ -51,7 +50,7 @@ fn show_words(rt: &HostRuntime, mut words: Words) -> anyhow::Result<()> {
 }
 
 // A record: 0 and its words, or the refusal.
-fn read(rt: &HostRuntime, slots: &[u8]) -> anyhow::Result<()> {
+fn read(rt: &impl Print, slots: &[u8]) -> anyhow::Result<()> {
     match Words::of(slots) {
         Ok(words) => show_words(rt, words),
         Err(refusal) => refuse(rt, refusal),
@@ -59,7 +58,7 @@ fn read(rt: &HostRuntime, slots: &[u8]) -> anyhow::Result<()> {
 }
 
 // A record listed in a book of five places: 0, the count, and the kind and place of each word; or the refusal.
-fn read_into_book(rt: &HostRuntime, slots: &[u8]) -> anyhow::Result<()> {
+fn read_into_book(rt: &impl Print, slots: &[u8]) -> anyhow::Result<()> {
     let mut places = [Listed {
         kind: Kind::Start,
         place: 0,
@@ -79,7 +78,7 @@ fn read_into_book(rt: &HostRuntime, slots: &[u8]) -> anyhow::Result<()> {
 }
 
 // A long record: 0, how many words it has, and what its bytes add up to.
-fn read_long(rt: &HostRuntime, slots: &[u8]) -> anyhow::Result<()> {
+fn read_long(rt: &impl Print, slots: &[u8]) -> anyhow::Result<()> {
     let mut words = match Words::of(slots) {
         Ok(words) => words,
         Err(refusal) => return refuse(rt, refusal),
@@ -99,7 +98,7 @@ fn read_long(rt: &HostRuntime, slots: &[u8]) -> anyhow::Result<()> {
     Ok(())
 }
 
-fn run(rt: &HostRuntime) -> anyhow::Result<()> {
+fn run(rt: &(impl Print + AllocGlobal)) -> anyhow::Result<()> {
     let heap = rt.alloc();
     for text in RECORDS {
         let slots = made::ranks(heap, text)?;

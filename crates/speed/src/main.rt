@@ -3,7 +3,6 @@
 #![tactic(auto)]
 
 use anyhow::anyhow;
-use anyhow::impls::*;
 use bench::Bench;
 use books::Book;
 use bus::Pair;
@@ -12,7 +11,7 @@ use driver::Driver;
 use line::Line;
 use orders::{Order, RawSegment};
 use refusals::Refusal;
-use std::time::Instant;
+use std::time::{Clock, Instant};
 
 type KeyBench = Bench<Pair<Driver, Line>, Pair<Gauge, Memory>>;
 
@@ -69,7 +68,7 @@ fn run_all(bench: &mut KeyBench) -> anyhow::Result<(u64, u64)> {
     Ok((SLOTS, moved))
 }
 
-fn measure(rt: &HostRuntime) -> anyhow::Result<()> {
+fn measure(rt: &(impl Print + Eprint + Clock)) -> anyhow::Result<()> {
     let masters = Pair {
         left: Driver::new(),
         right: Line::new(),

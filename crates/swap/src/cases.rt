@@ -1,6 +1,5 @@
 // Pairs of orders, for a gauge at 72 and a memory at 80.
 use anyhow::anyhow;
-use anyhow::impls::*;
 use orders::{Order, RawSegment};
 use refusals::Refusal;
 use std::alloc::Global;

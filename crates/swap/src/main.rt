@@ -5,11 +5,10 @@ mod cases;
 mod play;
 
 use anyhow::anyhow;
-use anyhow::impls::*;
 use driver::Driver;
 use line::Line;
 
-fn run(rt: &HostRuntime) -> anyhow::Result<()> {
+fn run(rt: &(impl Print + AllocGlobal)) -> anyhow::Result<()> {
     let heap = rt.alloc();
     for number in 0..cases::COUNT {
         println!(rt; "{}", cases::name(number))?;

@@ -1,6 +1,5 @@
 // Two masters and their orders on a bench with a gauge and a memory.
 use crate::cases::accepted;
-use anyhow::impls::*;
 use bench::Bench;
 use books::Book;
 use bus::{Pair, Symbol};

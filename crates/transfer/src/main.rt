@@ -4,7 +4,6 @@
 mod text;
 
 use anyhow::anyhow;
-use anyhow::impls::*;
 use bench::Bench;
 use bus::{Symbol, Turn};
 use chips::Gauge;
@@ -55,7 +54,7 @@ fn order(heap: Global) -> anyhow::Result<Order> {
 
 // Moves slots until the bus is free again, prints each, and keeps their ranks.
 fn follow(
-    rt: &HostRuntime,
+    rt: &(impl Print + AllocGlobal),
     bench: &mut Bench<Line, Gauge>,
     record: &mut Vec<u8>,
 ) -> anyhow::Result<()> {
@@ -75,7 +74,7 @@ fn follow(
 }
 
 // What a reader makes of the slots.
-fn read(rt: &HostRuntime, record: &[u8]) -> anyhow::Result<()> {
+fn read(rt: &(impl Print + AllocGlobal), record: &[u8]) -> anyhow::Result<()> {
     let mut words = accepted(rt.alloc(), Words::of(record))?;
     let mut address = false;
     while let Some(word) = words.next_word() {
@@ -84,7 +83,7 @@ fn read(rt: &HostRuntime, record: &[u8]) -> anyhow::Result<()> {
     Ok(())
 }
 
-fn run(rt: &HostRuntime) -> anyhow::Result<()> {
+fn run(rt: &(impl Print + AllocGlobal)) -> anyhow::Result<()> {
     println!(rt; "The gauge at address {ADDRESS} holds 25 130 7 0, its pointer at 0.")?;
     println!(rt; "The order of the line master:")?;
     println!(rt; "  segment 0: write 1 byte to address {ADDRESS}: {POINTER}")?;

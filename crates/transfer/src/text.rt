@@ -37,7 +37,12 @@ fn slot(heap: Global, turn: Turn) -> Result<String, AllocError> {
     }
 }
 
-pub fn print_slot(rt: &HostRuntime, number: usize, symbol: Symbol, turn: Turn) -> io::Result<()> {
+pub fn print_slot(
+    rt: &(impl Print + AllocGlobal),
+    number: usize,
+    symbol: Symbol,
+    turn: Turn,
+) -> io::Result<()> {
     let whose = if turn.is_masters() {
         "masters"
     } else {
@@ -64,7 +69,7 @@ fn wave(rank: u8) -> &'static str {
 }
 
 // SCL and SDA over some slots: three marks a slot, low SCL and the two halves of high SCL.
-fn draw(rt: &HostRuntime, ranks: &[u8]) -> io::Result<()> {
+fn draw(rt: &(impl Print + AllocGlobal), ranks: &[u8]) -> io::Result<()> {
     let heap = rt.alloc();
     let mut clock = String::new(heap);
     let mut data = String::new(heap);
@@ -77,7 +82,7 @@ fn draw(rt: &HostRuntime, ranks: &[u8]) -> io::Result<()> {
 }
 
 // An address byte comes after a start; whether the next byte is one is returned.
-pub fn print_word(rt: &HostRuntime, word: Word, address: bool) -> io::Result<bool> {
+pub fn print_word(rt: &(impl Print + AllocGlobal), word: Word, address: bool) -> io::Result<bool> {
     match word {
         Word::Start { place } => {
             println!(rt; "  {place:>3} start")?;
@@ -113,7 +118,7 @@ pub fn print_word(rt: &HostRuntime, word: Word, address: bool) -> io::Result<boo
     }
 }
 
-pub fn print_answer(rt: &HostRuntime, answer: Answer, bytes: &[u8; 32]) -> io::Result<()> {
+pub fn print_answer(rt: &impl Print, answer: Answer, bytes: &[u8; 32]) -> io::Result<()> {
     let outcome = answer.outcome;
     print!(rt;
         "The answer: outcome {}, segment {}, byte {}, losses {}, {} bytes read:",
