@@ -1,6 +1,6 @@
 -- Commands by their numbers. Assumes nothing.
 use Rattle.std.proofs.Common.{◌≡◌, ℕ, zero, suc, ◌+◌, ◌-◌, ◌*◌, ◌<◌, ◌≤◌, Bool, true, false, cond, ◌&&◌, eqb, ltb, List, [], ◌∷◌, ◌++◌, length, get_or, take, drop, IfOk, Some, None, Ok, Err, Result, sym, refl, ap, ◌∙◌, subst, arith, lt-ltb, eqb-true, MatchOption}
-use mathlib.Core.Option.{Option, none, some}
+use mathlib.Core.Option.{none, some}
 use borrow.Author.Tests.{eqb-false, clash}
 use Rattle.std.specs.declared.option.Option as std
 use Rattle.std.proofs.lemmas.List.{take_rest, nil_from_length, append_assoc}

@@ -1,4 +1,4 @@
-use Rattle.std.proofs.Common.{◌≡◌, ℕ, ◌-◌, List, IfOk, string_bytes, ◌∙◌, subst}
+use Rattle.std.proofs.Common.{◌≡◌, ℕ, List, IfOk, string_bytes, ◌∙◌, subst}
 use Rattle.numerals.specs.Lines.{text}
 use Rattle.key_lines.proofs.Collecting.{numbers_as}
 use Rattle.key_lines.proofs.replies.answer_reply.Goals as goal

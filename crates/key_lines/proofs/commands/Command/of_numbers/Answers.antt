@@ -7,4 +7,4 @@ pub returns : goal.returns
 returns c =
     let ns = c.args.numbers.now in
     let two : 2 ≤ length ns = search rules in
-    subst (λ (q : List ℕ). Reads q c.of-parts.result) (sym (front_two ns two)) c.of-parts.ensures
+    subst (λ (q : List ℕ). Reads q c.of_parts.result) (sym (front_two ns two)) c.of_parts.ensures

@@ -1,17 +1,17 @@
-use Rattle.std.proofs.Common.{◌≡◌, ◌-◌, length, sym, ap, arith, rules}
+use Rattle.std.proofs.Common.{◌≡◌, length, sym, ap, arith, rules}
 use Rattle.key_lines.proofs.Spelling.{segments_long, not_place, not_bytes, place_read}
 use Rattle.key_lines.proofs.commands.numbers.place.Goals as goal
 
-pub returns-in-default : goal.returns-in-default
-returns-in-default c =
+pub returns-in_default : goal.returns-in_default
+returns-in_default c =
     let rest = c.args.rest.now in
     let book = c.new-book.result in
     let size : length book.places.now ≡ 14 = ap length c.new-book.ensures.places in
     not_place c.args.number c.args.count rest
-    (λ ss bs e q p. omega (arith, c.in-default.ensures.cases ss bs e q, segments_long ss bs rest q, size, c.new-book.ensures.used, c.requires))
+    (λ ss bs e q p. omega (arith, c.in_default.ensures.cases ss bs e q, segments_long ss bs rest q, size, c.new-book.ensures.used, c.requires))
 
-pub read-bytes-all-requires : goal.read-bytes-all-requires
-read-bytes-all-requires c =
+pub read_bytes-all-requires : goal.read_bytes-all-requires
+read_bytes-all-requires c =
     let rest = c.args.rest.now in
     let book = c.new-book-2.result in
     let left = c.in-Some.left.now in
@@ -29,5 +29,5 @@ returns c =
     let had = c.in-Some.ensures.cases in
     let bytes = c.if-not-all.ensures in
     place_read c.args.number c.args.count c.args.rest.now c.filled-order.result had.0 _ c.in-Some.left.now _
-    c.close-used.result c.read-segments-left.new.book.used c.close-written.result c.read-bytes-all.new.book.used
+    c.close-used.result c.read_segments-left.new.book.used c.close-written.result c.read_bytes-all.new.book.used
     had.1 had.2 (sym bytes.all) c.close-used.ensures.total (search rules) c.close-written.ensures.total (search rules) c.filled-order.ensures

@@ -4,8 +4,8 @@ use Rattle.books.specs.Marks.{marked}
 use Rattle.key_lines.proofs.Spelling.{bytes_none, bytes_more, marks_more, mark_done}
 use Rattle.key_lines.proofs.commands.segments.+read_bytes.Goals as goal
 
-pub returns-in-default : goal.returns-in-default
-returns-in-default t c =
+pub returns-in_default : goal.returns-in_default
+returns-in_default t c =
     let ns = c.args.numbers.now in
     let book = c.args.book.now in
     let marks = marked book.places.now book.used in

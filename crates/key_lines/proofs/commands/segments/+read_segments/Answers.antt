@@ -3,8 +3,8 @@ use Rattle.books.specs.Marks.{marked}
 use Rattle.key_lines.proofs.Spelling.{segments_long, whole, first_segment, mark_done, used_more}
 use Rattle.key_lines.proofs.commands.segments.+read_segments.Goals as goal
 
-pub returns-in-default : goal.returns-in-default
-returns-in-default t c =
+pub returns-in_default : goal.returns-in_default
+returns-in_default t c =
     let ns = c.args.numbers.now in
     let few : length ns < 3 = search rules in
     let some : c.args.count ≡ 0 → ⊥ = search rules in
@@ -28,8 +28,8 @@ returns t c =
     let marks = mark_done (marked book.places.now book.used) (marked new.places.now new.used) (first_segment ns) book.used size ok m.test room m.marks in
     record {
       cases =
-          whole (λ r. r.now) c.read-segments.result ns c.args.count (c.args.count - 1) (size - book.used) (length new.places.now - new.used) _ _ _
-          three (omega (arith, c.if-count-eq0.false)) (omega (arith, used, m.long, room)) marks c.read-segments.ensures.cases;
-      long = c.read-segments.ensures.long ∙ m.long;
-      named = c.read-segments.ensures.named ∙ m.named;
+          whole (λ r. r.now) c.read_segments.result ns c.args.count (c.args.count - 1) (size - book.used) (length new.places.now - new.used) _ _ _
+          three (omega (arith, c.if-count-eq0.false)) (omega (arith, used, m.long, room)) marks c.read_segments.ensures.cases;
+      long = c.read_segments.ensures.long ∙ m.long;
+      named = c.read_segments.ensures.named ∙ m.named;
     }

@@ -5,8 +5,8 @@ use Rattle.law.specs.Calls.{Collect, does}
 use Rattle.key_lines.proofs.Collecting.{handed_over, count_within, answer_line, refused_line}
 use Rattle.key_lines.proofs.session.Session.collect.Goals as goal
 
-pub answer-reply-requires : goal.answer-reply-requires
-answer-reply-requires g c =
+pub answer_reply-requires : goal.answer_reply-requires
+answer_reply-requires g c =
     let w = model g.M.Masters g.S.Slaves c.args.self.now.bench in
     let did = c.collect.ensures in
     let had = handed_over w c.args.number c.from.result _ c.collect.new.buffer c.collect.result (Ok c.in-Ok.answer) refl c.from.ensures did.answer c.in-Ok.is did.bytes in
@@ -22,7 +22,7 @@ returns-in-Ok g c =
     let had = handed_over w n k _ buffer c.collect.result (Ok c.in-Ok.answer) refl c.from.ensures did.answer c.in-Ok.is did.bytes in
     let line = answer_line w n k _ buffer c.collect.result c.in-Ok.answer c.from.ensures did.answer c.in-Ok.is had in
     record {
-      answer = subst (λ (l : List ℕ). IfOk c.answer-reply.result (λ s. string_bytes s ≡ text l)) line c.answer-reply.ensures;
+      answer = subst (λ (l : List ℕ). IfOk c.answer_reply.result (λ s. string_bytes s ≡ text l)) line c.answer_reply.ensures;
       after = did.after ∙ ap (λ (i : ℕ). does (Collect i 32) w) c.from.ensures;
     }
 
@@ -36,6 +36,6 @@ returns-in-Err g c =
     let had = handed_over w n k _ buffer c.collect.result (Err c.in-Err.refusal) refl c.from.ensures did.answer c.in-Err.is did.bytes in
     let line = refused_line w n k c.collect.result c.in-Err.refusal c.number.result c.from.ensures did.answer c.in-Err.is c.number.ensures had in
     record {
-      answer = subst (λ (l : List ℕ). IfOk c.short-reply.result (λ s. string_bytes s ≡ text l)) line c.short-reply.ensures;
+      answer = subst (λ (l : List ℕ). IfOk c.short_reply.result (λ s. string_bytes s ≡ text l)) line c.short_reply.ensures;
       after = did.after ∙ ap (λ (i : ℕ). does (Collect i 32) w) c.from.ensures;
     }
