@@ -2,7 +2,7 @@ use Rattle.std.proofs.Common.{◌≡◌, ◌<◌, [], length, rules}
 use Rattle.std.proofs.lemmas.List.{nil_from_length}
 use Rattle.std.proofs.lemmas.Slice.{first_rest}
 use Rattle.reader.specs.Refusals.{against, unfinished}
-use Rattle.reader.proofs.Checking.{checked_on, checked_offends, checked_whole, checked_unfinished, checked_place, whole_offends, whole_unfinished}
+use Rattle.reader.proofs.Checking.{checked_on, checked_offends, checked_unfinished, whole_offends, whole_unfinished}
 use Rattle.reader.proofs.checks.check.Goals as goal
 
 pub returns-in_default-follow : goal.returns-in_default-follow
@@ -11,12 +11,6 @@ returns-in_default-follow c =
     let some : 0 < length left = search rules in
     let o = checked_offends c.args.slots.now left _ c.loop-left.turn c.loop-left.place _ c.loop-left.invariant (first_rest left 0 some) c.in_default-follow.ensures in
     record { cases = against c.loop-left.place o; exactly = λ w. absurd (whole_offends c.args.slots.now c.loop-left.place w o) }
-
-pub overflow_add-place : goal.overflow_add-place
-overflow_add-place c =
-    let left = c.loop-left.left.now in
-    let e = checked_place c.args.slots.now left c.loop-left.turn c.loop-left.place c.loop-left.invariant in
-    search rules
 
 pub loop-left-preserved : goal.loop-left-preserved
 loop-left-preserved c =
@@ -30,12 +24,3 @@ returns-then-is_busy c =
     let none : left ≡ [] = nil_from_length left (search rules) in
     let u = checked_unfinished c.args.slots.now left c.loop-left.turn c.loop-left.place c.loop-left.invariant none (search rules) in
     record { cases = unfinished u; exactly = λ w. absurd (whole_unfinished c.args.slots.now w u) }
-
-pub returns : goal.returns
-returns c =
-    let left = c.loop-left.left.now in
-    let none : left ≡ [] = nil_from_length left (search rules) in
-    record {
-      cases = checked_whole c.args.slots.now left c.loop-left.turn c.loop-left.place c.loop-left.invariant none (search rules);
-      exactly = search rules;
-    }
