@@ -38,8 +38,5 @@ each_fair (s ∷ ss) l (suc i) = each_fair ss l.1 i
 pub fair_at : (ss : Order) → Lawful ss → (i : ℕ) → Fair (here ss i)
 fair_at ss l i = each_fair ss l.each i
 
-pub low_address : (ss : Order) → Lawful ss → (i : ℕ) → address_of (here ss i) ≤ 119
-low_address ss l i = (fair_at ss l i).low
-
 pub some_segment : (ss : Order) → Lawful ss → ltb 0 (length ss) ≡ true
 some_segment ss l = lt-ltb 0 (length ss) (omega (arith, l.some_segment))
