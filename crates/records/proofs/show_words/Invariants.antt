@@ -3,4 +3,4 @@ use Rattle.reader.specs.Cursors.{still}
 use Rattle.records.proofs.show_words.Given as goal
 
 abbrev pub decreases-loop-word : goal.decreases-loop-word
-decreases-loop-word l = length (still l.words)
+decreases-loop-word g l = length (still l.words)
