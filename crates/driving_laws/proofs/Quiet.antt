@@ -16,15 +16,15 @@ use Rattle.block.specs.declared.Control.{Control}
 use Rattle.block.specs.declared.Task.{Task}
 use Rattle.block.specs.declared.Task.TheVariants as task
 use Rattle.block.specs.Slots.{is_ninth}
-use Rattle.block.specs.Tasks.{waits, starts}
+use Rattle.block.specs.Tasks.{waits}
 use Rattle.block.specs.Heard.{heard, moved_on}
 use Rattle.driving.specs.declared.Standing.{Standing}
 use Rattle.driving.specs.declared.Standing.TheVariants.{Idle, Waiting, Answered}
 use Rattle.driving.specs.States.{Known}
-use Rattle.driving.specs.Driving.{heard_block, heard_known, loss_cleared, retried, renewed, begun, with_standing}
-use Rattle.driving_laws.specs.Tied.{patched, tied, task_of, acks_of, is_contending, sends_of, turned, real, unacked}
+use Rattle.driving.specs.Driving.{loss_cleared, retried, renewed, begun, with_standing}
+use Rattle.driving_laws.specs.Tied.{patched, tied, task_of, acks_of, is_contending, sends_of}
 use Rattle.driving_laws.specs.Meaning.{standing_of}
-use Rattle.driving_laws.specs.Agreement.{Sound, Heard, Hears, after_known, after_block}
+use Rattle.driving_laws.specs.Agreement.{Heard, Hears}
 
 pub same_arms : {A : Type 0} (c : Bool) (a : A) → cond c a a ≡ a
 same_arms true a = refl
