@@ -1,9 +1,8 @@
 -- A register master as it stands. Assumes nothing.
-use Rattle.std.proofs.Common.{◌≡◌, ◌≤◌, Bool, length, sym, ap, ◌∙◌, subst}
+use Rattle.std.proofs.Common.{◌≡◌, ◌≤◌, Bool, sym, ap, ◌∙◌, subst}
 use Rattle.bus.specs.declared.Symbol.{Symbol}
 use Rattle.bus.specs.declared.Turn.{Turn}
 use Rattle.bus.specs.Turns.{next}
-use Rattle.orders.specs.Held.{held}
 use Rattle.orders.specs.Fills.{order_of}
 use Rattle.progress.specs.Plans.{read_total}
 use Rattle.masters.specs.Master as master
@@ -12,12 +11,10 @@ use Rattle.block.specs.declared.Block.{Block}
 use Rattle.block.specs.Tasks.{offers, starts}
 use Rattle.block.specs.Heard.{heard}
 use Rattle.driver.specs.declared.master.Driver.{Driver}
-use Rattle.driving.specs.declared.Standing.{Standing}
-use Rattle.driving.specs.declared.Standing.TheVariants.{Answered}
 use Rattle.driving.specs.declared.State.{State}
 use Rattle.driving.specs.States.{Known, known_of}
 use Rattle.driving.specs.Driving.{heard_known, heard_block, retried, loss_cleared}
-use Rattle.driving_laws.specs.Meaning.{standing_of, standing_at, read_most}
+use Rattle.driving_laws.specs.Meaning.{standing_of, read_most}
 use Rattle.driver.specs.Driver.{master_of}
 use Rattle.driving_laws.specs.Agreement.{Sound, Hears, Heard, after_known, after_block}
 use Rattle.driving_laws.proofs.Main.{hears_all, offers_all}
@@ -57,7 +54,3 @@ pub slot_master : (d : Driver) (x : Symbol) (r : Known) (b : Block) → Heard (o
     → record { turn = b.turn; standing = standing_of (order_of d.order) r b } ≡ master.heard x (master_of d)
 slot_master d x r b w =
     ap (λ (t : Turn). record { turn = t; standing = standing_of (order_of d.order) r b }) w.turn ∙ ap (λ (st : masters.Standing). record { turn = next d.block.turn x; standing = st }) w.standing
-
--- an answer has no more bytes than its order reads
-pub all_read : (d : Driver) → d.state.standing ≡ Answered → length (held d.state.bytes) ≤ read_total (order_of d.order)
-all_read d e = subst (λ (st : Standing). read_most (standing_at (order_of d.order) st d.block.turn d.block.shift (known_of d.state)) ≤ read_total (order_of d.order)) e d.room

@@ -1,9 +1,7 @@
 // What a register master does.
 ghost use Rattle.std.specs.Prelude.{◌≡◌, false, length};
 ghost use Rattle.bus.specs.declared.Turn.TheVariants.{Free};
-ghost use Rattle.orders.specs.Held.{held};
 ghost use Rattle.orders.specs.Fills.{order_of};
-ghost use Rattle.progress.specs.Meaning.{answer_in};
 ghost use Rattle.masters.specs.Standings.{idle as idle_standing, is_waiting};
 ghost use Rattle.masters.specs.Master as master;
 ghost use Rattle.block.specs.Tasks.{offers};
