@@ -2,7 +2,7 @@
 #![tactic(auto)]
 
 #[cfg(test)]
-mod driving;
+mod driven;
 #[cfg(test)]
 mod marking;
 #[cfg(test)]
