@@ -1,11 +1,11 @@
 -- What orders get of a chip that is the only slave of its bus. Assumes nothing.
---     HasAnswer              the order has a history alone, and every one that it has tells this outcome and these bytes
---     Gives                   what comes of an order at a chip: its answer, and how it leaves the chip
+--     HasAnswer             the order has a history alone, and every one that it has tells this outcome and these bytes
+--     Gives                 what comes of an order at a chip: its answer, and how it leaves the chip
 --     OrdersAreServed       every lawful order gets of every chip what it is due, and leaves it so
 --     AssemblyAltersNone    and so of a chip that is put on a bench, wherever the turns were: it holds what it held
---     Ready                   a chip on a free bus, with so many bytes and its place among them
---     NewChipsAreReady     gauges and memories are, as they are made
---     Brings                  an order is done, with these bytes
+--     Ready                 a chip on a free bus, with so many bytes and its place among them
+--     NewChipsAreReady      gauges and memories are, as they are made
+--     Brings                an order is done, with these bytes
 use Rattle.std.specs.Prelude.{◌≡◌, ℕ, zero, suc, ◌<◌, ◌≤◌, List, [], ◌∷◌, map, length, replicate}
 use Rattle.bus.specs.declared.Symbol.{Symbol}
 use Rattle.bus.specs.declared.Turn.TheVariants.{Free}

@@ -1,5 +1,5 @@
 -- What a master finds of a memory. Assumes nothing.
---     Written       what a write leaves to be read: what was written, and elsewhere what was there before
+--     Written      what a write leaves to be read: what was written, and elsewhere what was there before
 --     MemoryLaw    of a memory with 256 cells and its place among them, on a free bus
 use Rattle.std.specs.Prelude.{◌≡◌, ℕ, ◌+◌, ◌%◌, ◌<◌, ◌≤◌, cond, List, [], ◌∷◌, length, Ok, ◌==◌, slice_index}
 use Rattle.bus.specs.declared.Symbol.{Symbol}

@@ -1,8 +1,8 @@
 -- An order at a slave that shares the bus with others. Assumes nothing.
---     Elsewhere                          no segment of the order has this address
---     Unaddressed                        the slave is a chip on a free bus, with an address that the order does not have
---     Among                              the slaves are this one and unaddressed chips
---     AsIfAlone                        the order has of them the histories, and so the answer, that it has of the one slave
+--     Elsewhere                       no segment of the order has this address
+--     Unaddressed                     the slave is a chip on a free bus, with an address that the order does not have
+--     Among                           the slaves are this one and unaddressed chips
+--     AsIfAlone                       the order has of them the histories, and so the answer, that it has of the one slave
 --     UnaddressedChipsAreSilent       among unaddressed chips an order fares as if the slave were alone
 --     UnaddressedChipsAreUnaltered    whatever slaves there are, an order leaves an unaddressed chip as one newly made with the same contents
 use Rattle.std.specs.Prelude.{◌≡◌, ℕ, ◌⊎◌, ◌↔◌, List}

@@ -1,8 +1,8 @@
 -- The block and the contender agree: what the register master makes of its block is what a master does. Assumes nothing.
---     Sound              how the block stands is tied to how far the register master has come
---     after_known        what the register master knows after a slot
---     after_block        its block after that slot and what it then writes
---     Heard              what a slot leads to: it is sound again, and stands as a master does that heard the slot
+--     Sound             how the block stands is tied to how far the register master has come
+--     after_known       what the register master knows after a slot
+--     after_block       its block after that slot and what it then writes
+--     Heard             what a slot leads to: it is sound again, and stands as a master does that heard the slot
 --     RegistersAgree    this holds of every lawful order, of every block and of every symbol
 use Rattle.std.specs.Prelude.{◌≡◌, ◌≤◌, true, false}
 use Rattle.bus.specs.declared.Symbol.{Symbol}

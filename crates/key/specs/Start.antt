@@ -1,7 +1,7 @@
 -- The bench of `key` at first. Assumes nothing.
---     model_of       what a bench of these parts means
+--     model_of                 what a bench of these parts means
 --     new_gauge, new_memory    a gauge and a memory at an address, all their bytes 0
---     start          a register master and a line master, both idle, a gauge at 72 and a memory at 80, on a free bus
+--     start                    a register master and a line master, both idle, a gauge at 72 and a memory at 80, on a free bus
 use Rattle.std.specs.Prelude.{ℕ, replicate}
 use Rattle.bus.specs.declared.Pair.{Pair}
 use Rattle.bus.specs.declared.Turn.TheVariants.{Free}

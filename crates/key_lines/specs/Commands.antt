@@ -1,9 +1,9 @@
 -- What a line asks of a bench. Assumes nothing.
---     Command        a call by its numbers: an order by its segments and write bytes
---     spelt          the numbers of the command's line
---     proper         its bytes are bytes
---     Asks           the line asks for this command
---     Means          the line asks for this command, or for none
+--     Command       a call by its numbers: an order by its segments and write bytes
+--     spelt         the numbers of the command's line
+--     proper        its bytes are bytes
+--     Asks          the line asks for this command
+--     Means         the line asks for this command, or for none
 --     OneMeaning    no line means two things
 use Rattle.std.specs.Prelude.{◌≡◌, ℕ, Bool, true, List, [], ◌∷◌, ◌++◌, length}
 use Rattle.std.proofs.Math.Option.{Option, none, some}

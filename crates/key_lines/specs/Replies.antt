@@ -1,8 +1,8 @@
 -- What a line gets, and what it makes of the bench. Assumes nothing.
---     reply, after      the numbers that a command gets, and the bench after it
---     output, leaves    the same of what a line means
---     Answers, Alters   a text is what a line gets; a bench is what the line makes of a bench
---     ByACall         at most one call of the bench leads from one bench to another
+--     reply, after       the numbers that a command gets, and the bench after it
+--     output, leaves     the same of what a line means
+--     Answers, Alters    a text is what a line gets; a bench is what the line makes of a bench
+--     ByACall            at most one call of the bench leads from one bench to another
 use Rattle.std.specs.Prelude.{◌≡◌, ℕ, zero, suc, ◌≤◌, cond, List, [], ◌∷◌, length, ◌==◌}
 use Rattle.std.proofs.Math.Option.{Option, none, some}
 use Rattle.refusals.specs.Numbers.{returned}

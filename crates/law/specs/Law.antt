@@ -1,11 +1,11 @@
 -- The law of contests, over every list of calls since assembly. Assumes nothing.
---     Finished       a finished contest among the slots that a list of calls moves: from an S on a free bus to the first P
---     Contends       a master contends in it: it waited at that S, with that order and those losses
---     HasAlone      what that order has alone, with the slaves as they stood at that S
---     FairContest   what is promised of a finished contest
---     Law            what is promised of a bench and the calls made on it since assembly
---     Always         the law, of every list of calls on a bench as it is assembled
---     Continues      the law, of every list of calls that leads to a bench, with one call more
+--     Finished             a finished contest among the slots that a list of calls moves: from an S on a free bus to the first P
+--     Contends             a master contends in it: it waited at that S, with that order and those losses
+--     HasAlone             what that order has alone, with the slaves as they stood at that S
+--     FairContest          what is promised of a finished contest
+--     Law                  what is promised of a bench and the calls made on it since assembly
+--     Always               the law, of every list of calls on a bench as it is assembled
+--     Continues            the law, of every list of calls that leads to a bench, with one call more
 --     ContestsAreLawful    both, of every bank of masters and every bank of slaves that keep to the turns
 use Rattle.std.specs.Prelude.{◌≡◌, ℕ, ◌+◌, ◌*◌, ◌≤◌, min, true, cond, List, [], ◌∷◌, ◌++◌, length, ◌≢◌}
 use Rattle.history.specs.Marks.{Less}

@@ -1,8 +1,8 @@
 -- A bench as its two banks, and a slot of it. Assumes nothing.
---     Model       what a bench means: what its masters and its slaves mean
---     assembled   at first: each slave counts the bus as free, each master is idle
---     carried     the next slot carries the least symbol offered; moved: and all hear it
---     standing    how the master with a number stands
+--     Model             what a bench means: what its masters and its slaves mean
+--     assembled         at first: each slave counts the bus as free, each master is idle
+--     carried           the next slot carries the least symbol offered; moved: and all hear it
+--     standing          how the master with a number stands
 --     run_slots, ran    steps until n slots are moved, or nobody waits: the slots, and the bench after them
 use Rattle.std.specs.Prelude.{ℕ, zero, suc, Bool, cond, not, List, [], ◌∷◌}
 use Rattle.history.specs.Marks.{least}

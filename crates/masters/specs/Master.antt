@@ -1,8 +1,8 @@
 -- What a master means, and what the calls do to a bank of masters. Assumes nothing.
---     Master    where the turns are, and how it stands
---     offered   what a bank offers: the least of its masters' offers
---     heard     a master after a slot
---     freed     a master on a bench put together anew
+--     Master         where the turns are, and how it stands
+--     offered        what a bank offers: the least of its masters' offers
+--     heard          a master after a slot
+--     freed          a master on a bench put together anew
 --     X-answer, X    of the master with a number: what the call X returns, and the bank afterwards
 use Rattle.std.specs.Prelude.{ℕ, Bool, cond, ◌||◌, List, ◌++◌, length, drop, Ok, Err, Result, nat_lt}
 use Rattle.refusals.specs.declared.Refusal.{Refusal}

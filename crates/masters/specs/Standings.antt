@@ -1,8 +1,8 @@
 -- How a master stands, and what a slot makes of it. Assumes nothing.
---     Request      an order that waits, and how often it has lost
---     Contender    a request in a contest, and how far it has come
---     Standing     idle; waiting; contending; or answered
---     hears        what a slot that carries a symbol makes of a standing
+--     Request                         an order that waits, and how often it has lost
+--     Contender                       a request in a contest, and how far it has come
+--     Standing                        idle; waiting; contending; or answered
+--     hears                           what a slot that carries a symbol makes of a standing
 --     placed, withdrawn, collected    what these calls make of it
 use Rattle.std.specs.Prelude.{ℕ, ◌+◌, min, Bool, true, false, cond, ◌==◌}
 use Rattle.std.proofs.Math.Option.{Option, none, some}

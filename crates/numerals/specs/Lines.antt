@@ -1,10 +1,10 @@
 -- Which list of numbers a line of bytes is, and a list's text. Assumes nothing.
---     Digit, Numeral     the value of a digit; of one to three digits, none of them a leading zero
---     Line               numerals with one space between
---     Is, Wrong          the line is this list of at most 47 numbers; it is none
---     text               decimal numbers with one space between
---     OneList           a line is at most one list
---     ReadsBack         the text of numbers to 999 is a line of these numbers
+--     Digit, Numeral       the value of a digit; of one to three digits, none of them a leading zero
+--     Line                 numerals with one space between
+--     Is, Wrong            the line is this list of at most 47 numbers; it is none
+--     text                 decimal numbers with one space between
+--     OneList              a line is at most one list
+--     ReadsBack            the text of numbers to 999 is a line of these numbers
 --     LongLinesAreWrong    what follows the first 188 bytes of a line cannot matter
 use Rattle.std.specs.Prelude.{◌≡◌, ℕ, ◌+◌, ◌*◌, ◌<◌, ◌≤◌, List, [], ◌∷◌, ◌++◌, length, take, decimal}
 

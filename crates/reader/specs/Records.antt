@@ -3,8 +3,8 @@
 --     Unfinished    it follows the turns, and ends in a contest
 --     Offends       up to a place it follows the turns, and what stands there is the rank of no symbol that may stand there
 --     used          a history without its free slots: without the 1s on a free bus
---     InOrder      each word stands at its place, one after the other
---     WordsOf      the words of a whole record: the only list that it reads as, and exactly its used slots in order
+--     InOrder       each word stands at its place, one after the other
+--     WordsOf       the words of a whole record: the only list that it reads as, and exactly its used slots in order
 use Rattle.std.specs.Prelude.{◌≡◌, ℕ, ◌+◌, ◌≤◌, Bool, true, false, cond, not, List, [], ◌∷◌, ◌++◌, map, length, take, drop}
 use Rattle.history.specs.Contest.{Follows, turn_after}
 use Rattle.bus.specs.declared.Symbol.{Symbol}

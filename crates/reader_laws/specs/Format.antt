@@ -1,5 +1,5 @@
 -- What the words of an order's history say. Assumes nothing.
---     items_of                words as items of the 7-bit format; the byte after a start is an address byte
+--     items_of             words as items of the 7-bit format; the byte after a start is an address byte
 --     OrdersAreReadBack    each order's history alone is a whole record, whose words say exactly the items of its frame
 use Rattle.std.specs.Prelude.{Bool, true, false, List, [], ◌∷◌}
 use Rattle.history.specs.Contest.{Rule, Polite}

@@ -1,8 +1,8 @@
 -- What an order has alone: its history, and the answer that the turns tell of that history. Assumes nothing.
 --     AloneHistory    the history that an order has against a reply rule, with no other contender
---     read_bytes       what each read byte's eight slaves' slots come to
---     outcome_in       the first slaves' ninth of 1 tells the outcome; without one it is done
---     answer_of        the answer that a history gives to an order
+--     read_bytes      what each read byte's eight slaves' slots come to
+--     outcome_in      the first slaves' ninth of 1 tells the outcome; without one it is done
+--     answer_of       the answer that a history gives to an order
 use Rattle.std.specs.Prelude.{◌≡◌, ℕ, zero, suc, pred, ◌+◌, ◌*◌, ◌≤◌, Bool, true, false, cond, List, [], ◌∷◌, length}
 use Rattle.std.proofs.Math.Option.{Option, none, some}
 use Rattle.history.specs.Contest.{Rule, Polite, Alone, GrowsAlone}

@@ -1,9 +1,9 @@
 -- The 7-bit format of UM10204: a grammar of what an order is on the bus, and how each of its items is spelt in slots. Assumes nothing.
---     Item                 START, ADDRESS a direction k, DATA byte k, or STOP; k tells whether the ninth slot acknowledges (A) or not (N)
---     Frame                the items in which segments go over the bus, the outcome that they show and the bytes that are read in them
---     Bits                 so many slots of 0 and 1 that come to a value, highest bit first
---     Slots                the slots of an item: one for START and STOP, nine for a byte
---     Spelt                the slots of one item after the other
+--     Item               START, ADDRESS a direction k, DATA byte k, or STOP; k tells whether the ninth slot acknowledges (A) or not (N)
+--     Frame              the items in which segments go over the bus, the outcome that they show and the bytes that are read in them
+--     Bits               so many slots of 0 and 1 that come to a value, highest bit first
+--     Slots              the slots of an item: one for START and STOP, nine for a byte
+--     Spelt              the slots of one item after the other
 --     OrdersAreFramed    each order's history alone is a frame, and shows what the turns tell of it
 use Rattle.std.specs.Prelude.{◌≡◌, ℕ, suc, ◌+◌, ◌^◌, Bool, true, false, cond, List, [], ◌∷◌, ◌++◌, length}
 use Rattle.history.specs.Contest.{Rule, Polite}
