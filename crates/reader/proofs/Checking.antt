@@ -1,7 +1,7 @@
 -- A record checked slot by slot. Assumes nothing.
-use Rattle.std.proofs.Common.{◌≡◌, ℕ, ◌+◌, true, false, List, [], ◌∷◌, ◌++◌, length, sym, refl, ap, ◌∙◌, subst, append_assoc, arith, length-append}
+use Rattle.std.proofs.Common.{◌≡◌, ℕ, ◌+◌, true, false, List, [], ◌∷◌, ◌++◌, length, sym, refl, ap, ◌∙◌, subst, append_assoc, arith}
 use borrow.Author.Tests.{clash}
-use Rattle.std.proofs.lemmas.List.{map_push, append-nil, length_push, length-map}
+use Rattle.std.proofs.lemmas.List.{map_push, append-nil, length_push}
 use Rattle.history.specs.Contest.{Follows, turn_after}
 use Rattle.bus.specs.Symbols.{rank, same_rank}
 use Rattle.bus.specs.Turns.{next, legal, busy, bus}
@@ -60,16 +60,8 @@ checked_end slots left t p c e = record {
   follows = c.follows;
 }
 
-pub checked_whole : (slots left : List ℕ) (t : Turn) (p : ℕ) → Checked slots left t p → left ≡ [] → busy t ≡ false → Whole slots
-checked_whole slots left t p c e b = (c.before, checked_end slots left t p c e, sym (ap busy c.turn) ∙ b)
-
 pub checked_unfinished : (slots left : List ℕ) (t : Turn) (p : ℕ) → Checked slots left t p → left ≡ [] → busy t ≡ true → Unfinished slots
 checked_unfinished slots left t p c e b = (c.before, checked_end slots left t p c e, sym (ap busy c.turn) ∙ b)
-
--- the place is within the record
-pub checked_place : (slots left : List ℕ) (t : Turn) (p : ℕ) → Checked slots left t p → p + length left ≡ length slots
-checked_place slots left t p c =
-    ap (λ (m : ℕ). m + length left) (c.at ∙ sym (length-map c.before rank)) ∙ sym (length-append (ranks c.before) left) ∙ sym (ap length c.same)
 
 -- a record has one history
 head_is : {A : Type 0} (x y : A) (xs ys : List A) → x ∷ xs ≡ y ∷ ys → x ≡ y

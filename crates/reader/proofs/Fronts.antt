@@ -1,7 +1,7 @@
 -- The first word of what is left. Assumes nothing.
 use Rattle.std.proofs.Common.{◌≡◌, ℕ, ◌+◌, ◌<◌, ◌≤◌, Bool, true, false, List, [], ◌∷◌, ◌++◌, length, get_or, take, drop, sym, refl, ap, ◌∙◌, subst, inl, inr, arith, length-append}
 use borrow.Author.Tests.{clash}
-use Rattle.std.proofs.lemmas.List.{take_at, drop_at, drop-drop, nil_from_length, length-drop, get_or_past}
+use Rattle.std.proofs.lemmas.List.{take_at, drop_at, drop-drop, nil_from_length, get_or_past}
 use Rattle.std.proofs.lemmas.Slice.{first_rest}
 use Rattle.std.specs.List.{between}
 use Rattle.reader.specs.Words.{Meaning, start, stop, byte, Bit, Bits, Reads, end, free, begins, ends, nine, Ended, Takes, NoFreeFirst}
@@ -41,11 +41,11 @@ at_end true p ws (nine {xs = ys} s e l bits r) = absurd (omega (arith, length-ap
 -- neither S nor P nor a free slot: nine slots of a byte
 pub at_nine : (b : Bool) (slots : List ℕ) (p : ℕ) → 0 < length slots → NoFreeFirst b slots → (get_or slots 0 0 ≡ 2 → ⊥) → (get_or slots 0 0 ≡ 1 → ⊥)
     → (ws : List Meaning) → Reads b slots p ws → (9 ≤ length slots) × First b slots p (byte p (take 9 slots)) ws true (drop 9 slots) (p + 9)
-at_nine b slots p some None-first two one ws end = absurd (omega arith)
-at_nine b slots p some None-first two one ws (free r) = absurd (None-first refl refl)
-at_nine b slots p some None-first two one ws (begins r) = absurd (two refl)
-at_nine b slots p some None-first two one ws (ends r) = absurd (one refl)
-at_nine b slots p some None-first two one ws (nine {xs = ys} {ws = later} s e l bits r) =
+at_nine b slots p some none_first two one ws end = absurd (omega arith)
+at_nine b slots p some none_first two one ws (free r) = absurd (none_first refl refl)
+at_nine b slots p some none_first two one ws (begins r) = absurd (two refl)
+at_nine b slots p some none_first two one ws (ends r) = absurd (one refl)
+at_nine b slots p some none_first two one ws (nine {xs = ys} {ws = later} s e l bits r) =
     let t : take 9 slots ≡ s = ap (take 9) e ∙ take_at s ys 9 l in
     let d : drop 9 slots ≡ ys = ap (drop 9) e ∙ drop_at s ys 9 l in (
       omega (arith, length-append s ys, ap length e),
@@ -57,27 +57,14 @@ first_is : (slots : List ℕ) (n : ℕ) → 0 < length slots → get_or slots 0 
 first_is [] n some e = absurd (omega arith)
 first_is (x ∷ xs) n some e = ap (λ (y : ℕ). y ∷ xs) e
 
-pub take_start : (slots : List ℕ) (p : ℕ) → 0 < length slots → get_or slots 0 0 ≡ 2 → (b : Bool) → NoFreeFirst b slots → Takes b slots p (start p) true (drop 1 slots) (p + 1)
-take_start slots p some e b None-first ws r = at_start b (drop 1 slots) p ws (subst (λ (q : List ℕ). Reads b q p ws) (first_is slots 2 some e) r)
-
-pub take_stop : (slots : List ℕ) (p : ℕ) → 0 < length slots → get_or slots 0 0 ≡ 1 → (b : Bool) → NoFreeFirst b slots → Takes b slots p (stop p) false (drop 1 slots) (p + 1)
-take_stop slots p some e b None-first ws r = at_stop b (drop 1 slots) p ws (subst (λ (q : List ℕ). Reads b q p ws) (first_is slots 1 some e) r)
-
 -- nothing is left
 pub take_end : (slots : List ℕ) (p : ℕ) → length slots < 1 → (b : Bool) → Ended b slots p
 take_end slots p none b ws r = at_end b p ws (subst (λ (q : List ℕ). Reads b q p ws) (nil_from_length slots (omega arith)) r)
 
--- too short for a byte
-pub take_none : (slots : List ℕ) (p : ℕ) → length slots < 9 → (0 < length slots → get_or slots 0 0 ≡ 2 → ⊥) → (0 < length slots → get_or slots 0 0 ≡ 1 → ⊥) → (b : Bool) → NoFreeFirst b slots → Ended b slots p
-take_none [] p short two one b None-first ws r = at_end b p ws r
-take_none (x ∷ xs) p short two one b None-first ws r =
-    let some : 0 < length (x ∷ xs) = omega arith in
-    absurd (omega (arith, (at_nine b (x ∷ xs) p some None-first (two some) (one some) ws r).0))
-
 pub take_nine : (slots s : List ℕ) (p : ℕ) → 9 ≤ length slots → s ≡ take 9 slots → (0 < length slots → get_or slots 0 0 ≡ 2 → ⊥) → (0 < length slots → get_or slots 0 0 ≡ 1 → ⊥) → (b : Bool) → NoFreeFirst b slots → Takes b slots p (byte p s) true (drop 9 slots) (p + 9)
-take_nine slots s p long es two one b None-first ws r =
+take_nine slots s p long es two one b none_first ws r =
     let some : 0 < length slots = omega arith in
-    let t = (at_nine b slots p some None-first (two some) (one some) ws r).1 in
+    let t = (at_nine b slots p some none_first (two some) (one some) ws r).1 in
     (t.0, t.1 ∙ ap (λ (q : List ℕ). byte p q ∷ t.0) (sym es), t.2)
 
 -- n free slots are taken off, and these are left
@@ -138,11 +125,6 @@ skip b slots left part p f ws el ep c r = (
   subst (λ (q : List ℕ). Reads b q (p + f) ws) (sym ep) (c.same p ws (subst (λ (q : List ℕ). Reads b q p ws) (sym el) r)),
 )
 
-pub next_none : (b : Bool) (slots left part : List ℕ) (p f : ℕ) → left ≡ drop p slots → part ≡ drop f left → Counted b left f → ((c : Bool) → NoFreeFirst c part → Ended c part (p + f)) → Ended b (drop p slots) p
-next_none b slots left part p f el ep c none ws r =
-    let k = skip b slots left part p f ws el ep c r in
-    none b k.0 ws k.1
-
 -- what is left after n slots of the part
 rest_of : (slots left part : List ℕ) (p f n : ℕ) → left ≡ drop p slots → part ≡ drop f left → drop n part ≡ drop (p + f + n) slots
 rest_of slots left part p f n el ep = ap (drop n) (ep ∙ ap (drop f) el ∙ drop-drop f p slots) ∙ drop-drop n (p + f) slots
@@ -153,11 +135,3 @@ next_some b b' slots left part p f n w el ep c takes ws r =
     let k = skip b slots left part p f ws el ep c r in
     let t = takes b k.0 ws k.1 in
     (t.0, t.1, subst (λ (q : List ℕ). Reads b' q (p + f + n) t.0) (rest_of slots left part p f n el ep) t.2)
-
-pub next_shorter : (slots left part : List ℕ) (p f n : ℕ) → left ≡ drop p slots → part ≡ drop f left → 0 < n → n ≤ length part → length (drop (p + f + n) slots) < length (drop p slots)
-next_shorter slots left part p f n el ep some within =
-    let a = length-drop (p + f + n) slots in
-    let b = length-drop p slots in
-    let c = ap length el in
-    let d = ap length ep ∙ length-drop f left in
-    omega arith

@@ -1,12 +1,12 @@
 -- Marking the words of a record. Assumes nothing.
-use Rattle.std.proofs.Common.{◌≡◌, ℕ, ◌+◌, ◌<◌, ◌≤◌, Bool, true, cond, ltb, List, [], ◌∷◌, ◌++◌, map, length, drop, IsErrAnd, Ok, Err, Result, sym, refl, ap, ◌∙◌, subst, append_assoc, arith, lt-ltb, MatchResult}
-use Rattle.std.proofs.lemmas.List.{append-nil, drop-drop}
+use Rattle.std.proofs.Common.{◌≡◌, ℕ, ◌+◌, ◌≤◌, List, ◌++◌, map, length, IsErrAnd, Ok, Err, Result, sym, refl, ap, ◌∙◌, subst, MatchResult}
+use Rattle.std.proofs.lemmas.List.{append-nil}
 use Rattle.books.specs.Marks.{marked, blank}
 use Rattle.reader.specs.declared.Listed.{Listed}
 use Rattle.reader.specs.declared.words.Words.{Words}
 use Rattle.reader.specs.Words.{Meaning, listed}
 use Rattle.reader.specs.Records.{WordsOf}
-use Rattle.reader.specs.Cursors.{Left, Exhausted, Moves}
+use Rattle.reader.specs.Cursors.{Left, Exhausted}
 
 -- the book was (old, before); it is (places, used), and the words of w are left
 pub record Listing (slots : List ℕ) (old : List Listed) (before : ℕ) (places : List Listed) (used : ℕ) (w : Words) : Type 0 where
@@ -21,37 +21,6 @@ pub record Listing (slots : List ℕ) (old : List Listed) (before : ℕ) (places
 
 pub listing_start : (slots : List ℕ) (old : List Listed) (before : ℕ) (all : List Meaning) (w : Words) → WordsOf slots all → Left w all → before + length all ≤ length old → Listing slots old before old before w
 listing_start slots old before all w o l room = record { all = all; later = all; words = o; left = l; marks = refl; room = room; long = refl; rest = refl }
-
--- room is left for the next word
-pub listing_room : (slots : List ℕ) (old : List Listed) (before : ℕ) (places : List Listed) (used : ℕ) (w v : Words) (m : Meaning) → Listing slots old before places used w → Moves w m v → used < length places
-listing_room slots old before places used w v m g t =
-    let n = t g.later g.left in
-    omega (arith, g.room, ap length n.1)
-
-pub listing_marked : (slots : List ℕ) (old : List Listed) (before : ℕ) (places : List Listed) (used : ℕ) (w v : Words) (m : Meaning) (places' : List Listed) (used' : ℕ) (ok : Bool) (x : Listed)
-    → Listing slots old before places used w → Moves w m v
-    → ok ≡ ltb used (length places) → used' ≡ cond ok (used + 1) used → x ≡ listed m
-    → marked places' used' ≡ cond ok (marked places used ++ (x ∷ [])) (marked places used) → blank places' used' ≡ blank places used' → length places' ≡ length places
-    → Listing slots old before places' used' v
-listing_marked slots old before places used w v m places' used' ok x g t et eu ex em er el =
-    let n = t g.later g.left in
-    let room : ok ≡ true = et ∙ lt-ltb used (length places) (listing_room slots old before places used w v m g t) in
-    let grown : used' ≡ used + 1 = eu ∙ ap (λ (c : Bool). cond c (used + 1) used) room in
-    let added : marked places' used' ≡ marked places used ++ (listed m ∷ []) =
-    em ∙ ap (λ (c : Bool). cond c (marked places used ++ (x ∷ [])) (marked places used)) room ∙ ap (λ (y : Listed). marked places used ++ (y ∷ [])) ex in
-    record {
-      all = g.all;
-      later = n.0;
-      words = g.words;
-      left = n.2;
-      marks =
-          ap (λ (l : List Listed). l ++ map listed n.0) added ∙ append_assoc (marked places used) (listed m ∷ []) (map listed n.0)
-          ∙ ap (λ (ws : List Meaning). marked places used ++ map listed ws) (sym n.1) ∙ g.marks;
-      room = omega (arith, g.room, grown, el, ap length n.1);
-      long = el ∙ g.long;
-      rest =
-          er ∙ ap (λ (k : ℕ). drop k places) grown ∙ sym (drop-drop 1 used places) ∙ ap (drop 1) g.rest ∙ drop-drop 1 used old ∙ ap (λ (k : ℕ). drop k old) (sym grown);
-    }
 
 pub listing_end : (slots : List ℕ) (old : List Listed) (before : ℕ) (places : List Listed) (used : ℕ) (w : Words) → (g : Listing slots old before places used w) → Exhausted w
     → marked places used ≡ marked old before ++ map listed g.all
