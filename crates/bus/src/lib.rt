@@ -3,12 +3,13 @@
 
 mod levels;
 mod symbols;
+mod texts;
 mod turns;
 
 pub use levels::halves_agree;
 
 // What a slot carries: 0, P (stop), S (start) or 1. A slot carries the least symbol offered.
-#[derive(Clone, Copy)]
+#[derive(Clone, Copy, Debug, PartialEq, Eq, PartialOrd, Ord, Hash)]
 pub enum Symbol {
     Zero,
     Stop,
@@ -17,21 +18,21 @@ pub enum Symbol {
 }
 
 // SDA in one half of SCL's high time.
-#[derive(Clone, Copy)]
+#[derive(Clone, Copy, Debug, PartialEq, Eq, PartialOrd, Ord, Hash)]
 pub enum Level {
     Low,
     High,
 }
 
 // The last bit of an address byte.
-#[derive(Clone, Copy)]
+#[derive(Clone, Copy, Debug, PartialEq, Eq, Hash)]
 pub enum Direction {
     Write,
     Read,
 }
 
 // Where the bus is: what the next slot is. A number counts the slots of the byte that come after the next one.
-#[derive(Clone, Copy)]
+#[derive(Clone, Copy, Debug, PartialEq, Eq, Hash)]
 pub enum Turn {
     Free,
     Address(u8),
