@@ -1,9 +1,6 @@
 -- What holds of banks. Assumes nothing.
-use Rattle.std.proofs.Common.{◌≡◌, ℕ, zero, suc, ◌+◌, ◌<◌, ◌≤◌, List, [], ◌∷◌, ◌++◌, length, get_or, Some, None, Option, sym, refl, ap, ◌∙◌, subst, add_assoc, arith, length-append}
-use Rattle.history.specs.Marks.{least}
-use Rattle.bus.specs.declared.Symbol.{Symbol}
-use Rattle.bus.specs.Symbols.{symbols}
-use Rattle.bus.specs.Banks.{Bank, Single, Both, each, All, least_of, beyond, ask, alter, listed}
+use Rattle.std.proofs.Common.{◌≡◌, ℕ, zero, suc, ◌+◌, ◌<◌, List, [], ◌∷◌, ◌++◌, length, get_or, Some, None, Option, sym, refl, ap, ◌∙◌, arith, length-append}
+use Rattle.bus.specs.Banks.{Bank, Single, Both, each, All, beyond, ask, alter, listed}
 
 module _ {X : Type 0} where
   pub all_each : (P Q : X → Type 0) (f : X → X) → ((x : X) → P x → Q (f x)) → (b : Bank X) → All P b → All Q (each f b)

@@ -1,5 +1,5 @@
 -- Slots and half-slot levels compare alike. Assumes nothing.
-use Rattle.std.proofs.Common.{◌≡◌, ℕ, zero, suc, ◌+◌, ◌*◌, ◌<◌, ◌≤◌, ◌⊎◌, List, [], ◌∷◌, sym, refl, ap, ◌∙◌, inl, inr, suc-le-suc, zero-le, le_of_suc-le-suc, arith}
+use Rattle.std.proofs.Common.{◌≡◌, ℕ, zero, suc, ◌+◌, ◌*◌, ◌<◌, ◌≤◌, List, [], ◌∷◌, sym, refl, ap, ◌∙◌, suc-le-suc, zero-le, le_of_suc-le-suc, arith}
 use native.Mathlib.Decide.{dec_lt}
 use Rattle.history.specs.Marks.{Marks, mark, Less}
 use Rattle.bus.specs.declared.Symbol.{Symbol}

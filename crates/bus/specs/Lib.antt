@@ -2,3 +2,4 @@ pub mod Symbols
 pub mod Levels
 pub mod Turns
 pub mod Banks
+pub mod Texts

@@ -3,8 +3,9 @@
 --     symbols    symbols as marks: 1 is the greatest
 --     is_bit     0 or 1
 --     bit        the lowest bit of a number as a symbol; value is the way back
+--     shifted    the bits of a byte with one more
 --     heading    the direction that the last slot of an address byte tells; heading_bit is the way back
-use Rattle.std.specs.Prelude.{◌≡◌, ℕ, zero, suc, ◌%◌, Bool, true, false, cond, ◌==◌, refl}
+use Rattle.std.specs.Prelude.{◌≡◌, ℕ, zero, suc, ◌+◌, ◌*◌, ◌%◌, Bool, true, false, cond, ◌==◌, refl}
 use Rattle.std.proofs.Common.{sym, ap, ◌∙◌, lit≤}
 use Rattle.history.specs.Marks.{Marks}
 use Rattle.bus.specs.declared.Symbol.{Symbol}
@@ -61,6 +62,10 @@ value Zero = 0
 value Stop = 0
 value Start = 0
 value One = 1
+
+-- the bits of a byte with one more, of which the last eight are kept
+abbrev pub shifted : ℕ → Symbol → ℕ
+shifted bits x = (2 * bits + value x) % 256
 
 abbrev pub heading : Symbol → Direction
 heading Zero = Write

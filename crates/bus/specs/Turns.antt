@@ -3,7 +3,7 @@
 --     masters_slot    the next slot is the masters'; else it is the slaves'
 --     legal           the next slot may carry the symbol
 --     busy            a contest is under way: from S on a free bus to P
-use Rattle.std.specs.Prelude.{ℕ, zero, suc, Bool, true, false}
+use Rattle.std.specs.Prelude.{zero, suc, Bool, true, false}
 use Rattle.history.specs.Contest.{Turns}
 use Rattle.bus.specs.declared.Symbol.{Symbol}
 use Rattle.bus.specs.declared.Symbol.TheVariants.{Zero, Stop, Start, One}

@@ -1,10 +1,11 @@
 // Slots as two half-slot levels.
-ghost use Rattle.std.specs.Prelude.{◌≡◌};
+ghost use Rattle.std.specs.Prelude.{◌≡◌, refl};
+ghost use Rattle.std.proofs.Common.{lit<};
+ghost use Rattle.bus.specs.declared.Level.TheVariants.{Low, High};
 ghost use Rattle.bus.specs.Levels.{early as early_of, late as late_of, levels, HalvesAgree};
 
 use crate::{Level, Symbol};
 use history::Mark;
-use std::cmp::Ordering;
 
 impl Symbol {
     // SDA in the early half of the slot.
@@ -44,13 +45,7 @@ impl Symbol {
 impl Mark for Level {
     ghost marks = { levels };
 
-    fn against(self, other: Level) -> Ordering {
-        match (self, other) {
-            (Level::Low, Level::High) => Ordering::Less,
-            (Level::High, Level::Low) => Ordering::Greater,
-            (Level::Low, Level::Low) | (Level::High, Level::High) => Ordering::Equal,
-        }
-    }
+    ghost ranked = { elim [ Low ↦ elim [ Low ↦ refl | High ↦ lit< tt ] | High ↦ elim [ Low ↦ lit< tt | High ↦ refl ] ] };
 
     fn greatest() -> Level {
         Level::High

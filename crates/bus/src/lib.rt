@@ -17,6 +17,12 @@ pub enum Symbol {
     One,
 }
 
+// A rank over 3.
+#[derive(Clone, Copy, Debug, PartialEq, Eq, Hash)]
+pub struct NoSymbol {
+    pub rank: u8,
+}
+
 // SDA in one half of SCL's high time.
 #[derive(Clone, Copy, Debug, PartialEq, Eq, PartialOrd, Ord, Hash)]
 pub enum Level {

@@ -1,11 +1,12 @@
 // Symbols, their order, and the bits among them.
-ghost use Rattle.std.specs.Prelude.{◌≡◌, ◌/◌, ◌^◌, ◌<◌, MatchOption};
+ghost use Rattle.std.specs.Prelude.{◌≡◌, ◌/◌, ◌^◌, ◌<◌, MatchResult, refl};
+ghost use Rattle.std.proofs.Common.{lit<};
 ghost use Rattle.history.specs.Marks.{least};
-ghost use Rattle.bus.specs.Symbols.{rank as rank_of, symbols, is_bit, bit as bit_of, value as value_of, heading, heading_bit};
+ghost use Rattle.bus.specs.declared.Symbol.TheVariants.{Zero, Stop, Start, One};
+ghost use Rattle.bus.specs.Symbols.{rank as rank_of, symbols, is_bit, bit as bit_of, value as value_of, shifted, heading, heading_bit};
 
-use crate::{Direction, Symbol};
+use crate::{Direction, NoSymbol, Symbol};
 use history::Mark;
-use std::cmp::Ordering;
 
 impl Symbol {
     // 0 for 0, 1 for P, 2 for S, 3 for 1: the order of the symbols.
@@ -20,28 +21,11 @@ impl Symbol {
         }
     }
 
-    // The symbol of that rank; a rank over 3 is none.
-    pub fn of_rank(rank: u8) -> Option<Symbol>
-        ensures { MatchOption result (3 < rank) (λ x. rank_of x ≡ rank) }
-    {
-        match rank {
-            0 => Some(Symbol::Zero),
-            1 => Some(Symbol::Stop),
-            2 => Some(Symbol::Start),
-            3 => Some(Symbol::One),
-            _ => None,
-        }
-    }
-
     // The lesser of two: what a slot carries where both are offered.
     pub fn lesser(self, other: Symbol) -> Symbol
         ensures { result ≡ least symbols self other }
     {
-        if self.rank() <= other.rank() {
-            self
-        } else {
-            other
-        }
+        self.min(other)
     }
 
     // Whether it is 0 or 1.
@@ -76,6 +60,15 @@ impl Symbol {
     }
 }
 
+impl Symbol {
+    // The bits of a byte with this one more, after the others; the ninth before it falls out.
+    pub fn shifted_into(self, bits: u8) -> u8
+        ensures { result ≡ shifted bits self }
+    {
+        bits % 128 * 2 + self.value()
+    }
+}
+
 impl Direction {
     // The direction that the last slot of an address byte tells.
     pub fn of_bit(bit: Symbol) -> Direction
@@ -98,12 +91,31 @@ impl Direction {
     }
 }
 
+impl TryFrom<u8> for Symbol {
+    type Error = NoSymbol;
+
+    ghost try_from_gives = { λ n r. MatchResult r (λ x. rank_of x ≡ n) (λ e. (3 < n) × (e.rank ≡ n)) };
+
+    fn try_from(rank: u8) -> Result<Symbol, NoSymbol> {
+        match rank {
+            0 => Ok(Symbol::Zero),
+            1 => Ok(Symbol::Stop),
+            2 => Ok(Symbol::Start),
+            3 => Ok(Symbol::One),
+            _ => Err(NoSymbol { rank }),
+        }
+    }
+}
+
 impl Mark for Symbol {
     ghost marks = { symbols };
 
-    fn against(self, other: Symbol) -> Ordering {
-        self.rank().cmp(&other.rank())
-    }
+    ghost ranked = { elim [
+      | Zero ↦ elim [ Zero ↦ refl | Stop ↦ lit< tt | Start ↦ lit< tt | One ↦ lit< tt ]
+      | Stop ↦ elim [ Zero ↦ lit< tt | Stop ↦ refl | Start ↦ lit< tt | One ↦ lit< tt ]
+      | Start ↦ elim [ Zero ↦ lit< tt | Stop ↦ lit< tt | Start ↦ refl | One ↦ lit< tt ]
+      | One ↦ elim [ Zero ↦ lit< tt | Stop ↦ lit< tt | Start ↦ lit< tt | One ↦ refl ]
+    ] };
 
     fn greatest() -> Symbol {
         Symbol::One

@@ -1,9 +1,14 @@
 // How the parts of the bus are printed.
+ghost use Rattle.std.specs.Prelude.{Some};
+ghost use Rattle.bus.specs.Texts.{letter, level_word, direction_word};
+
 use crate::{Direction, Level, Symbol};
 use std::fmt;
 
 // The letter of UM10204's drawings: 0, P, S or 1.
 impl fmt::Display for Symbol {
+    ghost output = { λ x. Some (letter x) };
+
     fn fmt<W: fmt::Write>(&self, f: &mut fmt::Formatter<W>) -> fmt::Result {
         f.pad(match self {
             Symbol::Zero => "0",
@@ -15,6 +20,8 @@ impl fmt::Display for Symbol {
 }
 
 impl fmt::Display for Level {
+    ghost output = { λ x. Some (level_word x) };
+
     fn fmt<W: fmt::Write>(&self, f: &mut fmt::Formatter<W>) -> fmt::Result {
         f.pad(match self {
             Level::Low => "low",
@@ -24,6 +31,8 @@ impl fmt::Display for Level {
 }
 
 impl fmt::Display for Direction {
+    ghost output = { λ x. Some (direction_word x) };
+
     fn fmt<W: fmt::Write>(&self, f: &mut fmt::Formatter<W>) -> fmt::Result {
         f.pad(match self {
             Direction::Write => "write",

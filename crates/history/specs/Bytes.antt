@@ -2,7 +2,9 @@
 use Rattle.std.specs.Prelude.{◌≡◌, ◌<◌}
 use mathlib.Core.HLevel.{is_prop→PathP}
 use Rattle.std.proofs.Math.Bridge.{le_prop}
-use Rattle.std.proofs.Common.{arith, lit<}
+use Rattle.std.proofs.Common.{arith, lit<, nat_cmp, Ordering, Less, Equal, Greater}
+use Rattle.std.specs.Cmp.{ranks}
+use Rattle.std.specs.Ordering.{MatchOrdering}
 use Rattle.history.specs.declared.bytes.Byte.{Byte}
 use Rattle.history.specs.Marks.{Marks}
 
@@ -16,3 +18,12 @@ bytes = record {
   top = record { value = 255; small = lit< tt };
   greatest = λ b. let s = b.small in omega arith;
 }
+
+-- bytes compare as their values do
+pub byte_ranked : (a b : Byte) → MatchOrdering (nat_cmp a.value b.value) (a.value < b.value) (a ≡ b) (b.value < a.value)
+byte_ranked a b = go (nat_cmp a.value b.value) (ranks a.value b.value)
+  where
+    go : (r : Ordering) → MatchOrdering r (a.value < b.value) (a.value ≡ b.value) (b.value < a.value) → MatchOrdering r (a.value < b.value) (a ≡ b) (b.value < a.value)
+    go Less h = h
+    go Equal h = same_value a b h
+    go Greater h = h

@@ -12,34 +12,30 @@ pub use bytes::Byte;
 use std::cmp::Ordering;
 
 // A kind of mark that has a total order and a greatest mark.
-pub trait Mark: Copy {
+pub trait Mark: Copy + Ord {
     ghost marks: { Marks Self };
-
-    fn against(self, other: Self) -> Ordering
-        ensures { MatchOrdering result (marks.rank self < marks.rank other) (self ≡ other) (marks.rank other < marks.rank self) };
 
     // The mark that no other is above.
     fn greatest() -> Self
         ensures { result ≡ marks.top };
+
+    // Marks compare as their ranks do.
+    ghost ranked: { (a b : Self) → MatchOrdering (Self.cmp a b) (marks.rank a < marks.rank b) (a ≡ b) (marks.rank b < marks.rank a) };
 }
 
 // The mark at a place; an ended history goes on with the greatest mark.
 fn mark_at<M: Mark>(history: &[M], place: usize) -> M
     ensures { result ≡ mark M.marks history.now place }
 {
-    if place < history.len() {
-        history[place]
-    } else {
-        M::greatest()
-    }
+    history.get(place).copied().unwrap_or(M::greatest())
 }
 
-// An ended history against one that goes on from a place: no mark is above the greatest.
-fn ended_against<M: Mark>(history: &[M], from: usize) -> Ordering
-    ensures { MatchOrdering result ⊥ ((k : ℕ) → from ≤ k → mark M.marks history.now k ≡ M.marks.top) ((k : ℕ) × (from ≤ k) × ((j : ℕ) → from ≤ j → j < k → mark M.marks history.now j ≡ M.marks.top) × (M.marks.rank (mark M.marks history.now k) < M.marks.rank M.marks.top)) }
+// An ended history against what another goes on with: no mark is above the greatest.
+fn ended_against<M: Mark>(rest: &[M]) -> Ordering
+    ensures { MatchOrdering result ⊥ ((k : ℕ) → mark M.marks rest.now k ≡ M.marks.top) ((k : ℕ) × ((j : ℕ) → j < k → mark M.marks rest.now j ≡ M.marks.top) × (M.marks.rank (mark M.marks rest.now k) < M.marks.rank M.marks.top)) }
 {
-    for place in from..history.len() {
-        match M::greatest().against(history[place]) {
+    for m in rest {
+        match M::greatest().cmp(m) {
             Ordering::Equal => {}
             found => return found,
         }
@@ -52,10 +48,13 @@ pub fn compare<M: Mark>(a: &[M], b: &[M]) -> Ordering
     ensures { MatchOrdering result (Less M.marks a.now b.now) (Same M.marks a.now b.now) (Less M.marks b.now a.now) }
 {
     for (i, m) in a.iter().enumerate() {
-        match (*m).against(mark_at(b, i)) {
+        match m.cmp(&mark_at(b, i)) {
             Ordering::Equal => {}
             found => return found,
         }
     }
-    ended_against(b, a.len())
+    match b.get(a.len()..) {
+        Some(rest) => ended_against(rest),
+        None => Ordering::Equal,
+    }
 }

@@ -1,8 +1,9 @@
 // What a call returns: 0 where it is done, else the number of a refusal.
 #![tactic(auto)]
 
-ghost use Rattle.std.specs.Prelude.{◌≡◌};
+ghost use Rattle.std.specs.Prelude.{◌≡◌, Some};
 ghost use Rattle.refusals.specs.Numbers.{number as number_of};
+ghost use Rattle.refusals.specs.Texts.{told};
 
 use std::error::Error;
 use std::fmt;
@@ -88,6 +89,8 @@ impl Refusal {
 }
 
 impl fmt::Display for Refusal {
+    ghost output = { λ e. Some (told e) };
+
     fn fmt<W: fmt::Write>(&self, f: &mut fmt::Formatter<W>) -> fmt::Result {
         write!(f, "refused with {}", self.number())
     }

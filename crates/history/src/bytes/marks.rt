@@ -1,22 +1,23 @@
 // Bytes in their order as numbers, 255 the greatest.
-ghost use Rattle.std.specs.Prelude.{◌≡◌, ℕ, ◌<◌, ◌≤◌};
-ghost use Rattle.history.specs.Bytes.{bytes};
+ghost use Rattle.std.specs.Prelude.{◌≡◌};
+ghost use Rattle.history.specs.Bytes.{bytes, byte_ranked};
 
 use super::Byte;
 use crate::Mark;
-use std::cmp::Ordering;
 
-impl Byte {
-    pub fn new(value: u8) -> Self
-        ensures { result.value ≡ value }
-    {
+impl From<u8> for Byte {
+    ghost from_gives = { λ n b. b.value ≡ n };
+
+    fn from(value: u8) -> Byte {
         Byte { value }
     }
+}
 
-    pub fn value(self) -> u8
-        ensures { result ≡ self.value }
-    {
-        let Byte { value } = self;
+impl From<Byte> for u8 {
+    ghost from_gives = { λ b n. n ≡ b.value };
+
+    fn from(byte: Byte) -> u8 {
+        let Byte { value } = byte;
         value
     }
 }
@@ -24,11 +25,9 @@ impl Byte {
 impl Mark for Byte {
     ghost marks = { bytes };
 
-    fn against(self, other: Byte) -> Ordering {
-        self.value.cmp(&other.value)
-    }
+    ghost ranked = { byte_ranked };
 
     fn greatest() -> Byte {
-        Byte::new(255)
+        Byte::from(255)
     }
 }
