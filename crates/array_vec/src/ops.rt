@@ -63,6 +63,8 @@ impl<T: Copy, const N: usize> ArrayVec<T, N> {
 impl<T: Copy, const N: usize> Clone for ArrayVec<T, N> {
     ghost is_clone = { λ v w. w ≡ v };
 
+    ghost is_infallible = { λ _. Unit {0} };
+
     fn clone(&self) -> Result<Self, AllocError> {
         Ok(*self)
     }
