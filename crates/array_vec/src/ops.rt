@@ -16,6 +16,15 @@ impl<T: Copy, const N: usize> ArrayVec<T, N> {
         }
     }
 
+    // The first N of some items.
+    pub fn from_slice(items: &[T], filler: T) -> Self
+        ensures { items_of result ≡ take N items.now }
+    {
+        let mut list = ArrayVec::new(filler);
+        list.extend_from_slice(items);
+        list
+    }
+
     pub fn len(&self) -> usize
         ensures { result ≡ length (items_of self.now) }
     {
