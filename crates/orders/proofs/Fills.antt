@@ -1,23 +1,23 @@
 -- What the checks of fill give: the table that is written means the order asked for, and it is lawful. Assumes nothing.
-use Rattle.std.proofs.Common.{◌≡◌, ℕ, zero, suc, ◌+◌, ◌<◌, ◌≤◌, Bool, true, false, cond, ◌&&◌, eqb, leb, List, [], ◌∷◌, ◌++◌, map, length, get_or, take, drop, set, sym, refl, ap, ◌∙◌, arith, length-take, rules}
-use Rattle.std.proofs.lemmas.List.{drop-drop, take_more_set, append_assoc, append-nil, at_drop_more, at_drop_all}
+use Rattle.std.proofs.Common.{◌≡◌, ℕ, zero, suc, ◌+◌, ◌<◌, ◌≤◌, Bool, true, false, cond, ◌&&◌, eqb, leb, List, [], ◌∷◌, ◌++◌, map, length, get_or, take, drop, set, sym, refl, ap, ◌∙◌, subst, arith, length-take, rules}
+use Rattle.std.proofs.lemmas.List.{drop-drop, take_all, take_more_set, append_assoc, append-nil, at_drop_more, at_drop_all}
 use Rattle.std.proofs.lemmas.Bool.{le-leb, and_parts, and_from}
 use Rattle.orders.specs.Orders.{writing, reading, total}
 use Rattle.orders.specs.declared.RawSegment.{RawSegment}
 use Rattle.orders.specs.declared.Segment.{Segment}
 use Rattle.bus.specs.declared.Direction.TheVariants.{Write, Read}
-use Rattle.orders.specs.declared.order.fill.Row.TheVariants as row
 use Rattle.orders.specs.Tables.{meant, aimed, lawful_segment, lawful, inside}
 use Rattle.orders.specs.Tests.{every, is_byte}
-use Rattle.orders.specs.Fills.{allowed, writes, counts, write_counts, refused, asked, written, tabled}
+use Rattle.orders.proofs.Holds.{every_take}
+use Rattle.orders.specs.Fills.{good_address, good_direction, good_count, writes, counts, write_counts, refused, asked, written, tabled}
 
 -- what the checks let through
 pub record Passed (ss : List RawSegment) (bs : List ℕ) : Type 0 where
   pub some : 1 ≤ length ss
   pub few : length ss ≤ 4
-  pub addresses : every (allowed row.Address) ss ≡ true
-  pub directions : every (allowed row.Direction) ss ≡ true
-  pub reads : every (allowed row.Count) ss ≡ true
+  pub addresses : every good_address ss ≡ true
+  pub directions : every good_direction ss ≡ true
+  pub reads : every good_count ss ≡ true
   pub small : counts ss ≤ 32
   pub exact : length bs ≡ write_counts ss
 
@@ -25,7 +25,7 @@ pub passed : (ss : List RawSegment) (bs : List ℕ) → refused ss bs ≡ 0 → 
 passed ss bs e = search rules
 
 -- the table means the order asked for
-pub meant_tabled : (bs : List ℕ) (ss : List RawSegment) (at : ℕ) → map (meant bs) (tabled ss at) ≡ asked ss (drop at bs)
+meant_tabled : (bs : List ℕ) (ss : List RawSegment) (at : ℕ) → map (meant bs) (tabled ss at) ≡ asked ss (drop at bs)
 meant_tabled bs [] at = refl
 meant_tabled bs (s ∷ ss) at = go (eqb s.direction 0) (λ k. meant_tabled bs ss k)
   where
@@ -36,7 +36,7 @@ meant_tabled bs (s ∷ ss) at = go (eqb s.direction 0) (λ k. meant_tabled bs ss
     go false ih = let e = ih at in let z : at + 0 ≡ at = omega arith in rw z (cc)
 
 -- every segment that writes has its bytes
-pub inside_tabled : (m : ℕ) (ss : List RawSegment) (at : ℕ) → at + write_counts ss ≤ m → at + counts ss ≤ 32 → every (inside m) (tabled ss at) ≡ true
+inside_tabled : (m : ℕ) (ss : List RawSegment) (at : ℕ) → at + write_counts ss ≤ m → at + counts ss ≤ 32 → every (inside m) (tabled ss at) ≡ true
 inside_tabled m [] at l c = refl
 inside_tabled m (s ∷ ss) at l c = go (eqb s.direction 0) l (λ k p q. inside_tabled m ss k p q)
   where
@@ -63,38 +63,31 @@ total_asked (s ∷ ss) bs = go (eqb s.direction 0) (λ k. total_asked ss k)
     go true ih = let e = ih (drop s.count bs) in let l = length-take s.count bs in omega arith
     go false ih = let e = ih bs in omega arith
 
-every_take : (f : ℕ → Bool) (n : ℕ) (xs : List ℕ) → every f xs ≡ true → every f (take n xs) ≡ true
-every_take f zero xs e = refl
-every_take f (suc n) [] e = refl
-every_take f (suc n) (x ∷ xs) e =
-    let p = and_parts (f x) (every f xs) e in
-    and_from (f x) (every f (take n xs)) p.0 (every_take f n xs p.1)
-
 every_drop : (f : ℕ → Bool) (n : ℕ) (xs : List ℕ) → every f xs ≡ true → every f (drop n xs) ≡ true
 every_drop f zero xs e = e
 every_drop f (suc n) [] e = refl
 every_drop f (suc n) (x ∷ xs) e = every_drop f n xs (and_parts (f x) (every f xs) e).1
 
-each_asked : (ss : List RawSegment) (bs : List ℕ) → every is_byte bs ≡ true → every (allowed row.Address) ss ≡ true → every (allowed row.Direction) ss ≡ true → every (allowed row.Count) ss ≡ true
+each_asked : (ss : List RawSegment) (bs : List ℕ) → every is_byte bs ≡ true → every good_address ss ≡ true → every good_direction ss ≡ true → every good_count ss ≡ true
     → every lawful_segment (asked ss bs) ≡ true
 each_asked [] bs b a d r = refl
 each_asked (s ∷ ss) bs b a d r = go (eqb s.direction 0) refl (λ k h. each_asked ss k h pa.1 pd.1 pr.1)
   where
-    pa : (allowed row.Address s ≡ true) × (every (allowed row.Address) ss ≡ true)
-    pa = and_parts (allowed row.Address s) (every (allowed row.Address) ss) a
+    pa : (good_address s ≡ true) × (every good_address ss ≡ true)
+    pa = and_parts (good_address s) (every good_address ss) a
 
-    pd : (allowed row.Direction s ≡ true) × (every (allowed row.Direction) ss ≡ true)
-    pd = and_parts (allowed row.Direction s) (every (allowed row.Direction) ss) d
+    pd : (good_direction s ≡ true) × (every good_direction ss ≡ true)
+    pd = and_parts (good_direction s) (every good_direction ss) d
 
-    pr : (allowed row.Count s ≡ true) × (every (allowed row.Count) ss ≡ true)
-    pr = and_parts (allowed row.Count s) (every (allowed row.Count) ss) r
+    pr : (good_count s ≡ true) × (every good_count ss ≡ true)
+    pr = and_parts (good_count s) (every good_count ss) r
 
     go : (w : Bool) → eqb s.direction 0 ≡ w → ((k : List ℕ) → every is_byte k ≡ true → every lawful_segment (asked ss k) ≡ true)
         → every lawful_segment (cond w (writing s.address (take s.count bs) ∷ asked ss (drop s.count bs)) (reading s.address s.count ∷ asked ss bs)) ≡ true
     go true e ih = let t = ih (drop s.count bs) (every_drop is_byte s.count bs b) in let u = every_take is_byte s.count bs b in search rules
     go false e ih = let t = ih bs b in search rules
 
-pub lawful_asked : (ss : List RawSegment) (bs : List ℕ) → every is_byte bs ≡ true → Passed ss bs → lawful (asked ss bs) ≡ true
+lawful_asked : (ss : List RawSegment) (bs : List ℕ) → every is_byte bs ≡ true → Passed ss bs → lawful (asked ss bs) ≡ true
 lawful_asked ss bs b p =
     let l = length_asked ss bs in
     let t = total_asked ss bs in
@@ -118,31 +111,43 @@ tabled_more copy ss i at x r room here e f inv =
     rw (t, a, x') inv
 
 -- all segments are written
-pub tabled_all : (copy : List Segment) (ss : List RawSegment) (i at : ℕ) → i ≡ length ss → take i copy ++ tabled (drop i ss) at ≡ tabled ss 0 → take (length ss) copy ≡ tabled ss 0
+tabled_all : (copy : List Segment) (ss : List RawSegment) (i at : ℕ) → i ≡ length ss → take i copy ++ tabled (drop i ss) at ≡ tabled ss 0 → take (length ss) copy ≡ tabled ss 0
 tabled_all copy ss i at e inv =
     let d : tabled (drop i ss) at ≡ [] = at_drop_all (λ l. tabled l at) ss i (omega arith) in
     let a = append-nil (take i copy) in
     sym (ap (λ n. take n copy) e) ∙ sym a ∙ sym (ap (λ l. take i copy ++ l) d) ∙ inv
 
--- what is written whole
-pub record Written (copy : List Segment) (ss : List RawSegment) (bs : List ℕ) : Type 0 where
-  pub means : map (meant bs) (take (length ss) copy) ≡ asked ss bs
-  pub there : every (inside (length bs)) (take (length ss) copy) ≡ true
-  pub kept : lawful (map (meant bs) (take (length ss) copy)) ≡ true
-
-pub written_whole : (copy : List Segment) (ss : List RawSegment) (bs : List ℕ) → every is_byte bs ≡ true → Passed ss bs → take (length ss) copy ≡ tabled ss 0 → Written copy ss bs
-written_whole copy ss bs b p e =
-    let means : map (meant bs) (take (length ss) copy) ≡ asked ss bs = ap (map (meant bs)) e ∙ meant_tabled bs ss 0 in
-    record {
-      means = means;
-      there = ap (every (inside (length bs))) e ∙ inside_tabled (length bs) ss 0 (omega (arith, p.exact)) (omega (arith, p.small));
-      kept = ap lawful means ∙ lawful_asked ss bs b p;
-    }
-
-pub writes_less : (ss : List RawSegment) → write_counts ss ≤ counts ss
+writes_less : (ss : List RawSegment) → write_counts ss ≤ counts ss
 writes_less [] = omega arith
 writes_less (s ∷ ss) = go (eqb s.direction 0) (writes_less ss)
   where
     go : (w : Bool) → write_counts ss ≤ counts ss → cond w s.count 0 + write_counts ss ≤ s.count + counts ss
     go true h = omega arith
     go false h = omega arith
+
+-- the order that is written, of this table and the bytes held
+pub record Written (table : List Segment) (held : List ℕ) (ss : List RawSegment) (bs : List ℕ) : Type 0 where
+  pub means : map (meant held) table ≡ asked ss bs
+  pub there : every (inside (length held)) table ≡ true
+  pub kept : lawful (map (meant held) table) ≡ true
+
+pub written_whole : (table copy : List Segment) (held : List ℕ) (ss : List RawSegment) (bs : List ℕ) (i at : ℕ)
+    → refused ss bs ≡ 0 → every is_byte held ≡ true → held ≡ take 32 bs → table ≡ take 4 (take (length ss) copy)
+    → i ≡ length ss → take i copy ++ tabled (drop i ss) at ≡ tabled ss 0 → Written table held ss bs
+written_whole table copy held ss bs i at e b h t n inv = subst (λ (l : List ℕ). Written table l ss bs) (sym same) (record {
+  means = means;
+  there = ap (every (inside (length bs))) is ∙ inside_tabled (length bs) ss 0 (omega (arith, p.exact)) (omega (arith, p.small));
+  kept = ap lawful means ∙ lawful_asked ss bs (rw same at b) p;
+})
+  where
+    p : Passed ss bs
+    p = passed ss bs e
+
+    same : held ≡ bs
+    same = h ∙ take_all 32 bs (omega (arith, p.exact, p.small, writes_less ss))
+
+    is : table ≡ tabled ss 0
+    is = t ∙ take_all 4 (take (length ss) copy) (simp length-take (omega (arith, p.few))) ∙ tabled_all copy ss i at n inv
+
+    means : map (meant bs) table ≡ asked ss bs
+    means = ap (map (meant bs)) is ∙ meant_tabled bs ss 0

@@ -5,24 +5,27 @@
 use Rattle.std.specs.Prelude.{ℕ, ◌+◌, Bool, true, cond, ◌&&◌, List, [], ◌∷◌, length, take, drop, ◌==◌, nat_le}
 use Rattle.orders.specs.Orders.{writing, reading}
 use Rattle.orders.specs.Orders as model
+use Rattle.array_vec.specs.Items.{items_of}
 use Rattle.orders.specs.declared.RawSegment.{RawSegment}
 use Rattle.bus.specs.declared.Direction.TheVariants.{Write, Read}
 use Rattle.orders.specs.declared.Segment.{Segment}
 use Rattle.orders.specs.declared.order.Order.{Order}
-use Rattle.orders.specs.declared.order.fill.Row.{Row}
-use Rattle.orders.specs.declared.order.fill.Row.TheVariants as row
 use Rattle.orders.specs.Held.{held}
 use Rattle.orders.specs.Tables.{meaning}
 use Rattle.orders.specs.Tests.{every}
 
 abbrev pub order_of : Order → model.Order
-order_of o = meaning o.table (held o.bytes)
+order_of o = meaning (items_of o.segments) (held o.bytes)
 
--- what a row of the table asks of one segment
-abbrev pub allowed : Row → RawSegment → Bool
-allowed row.Address s = nat_le 8 s.address && nat_le s.address 119
-allowed row.Direction s = nat_le s.direction 1
-allowed row.Count s = cond (s.direction == 1) (nat_le 1 s.count) true
+-- what each row of the table asks of one segment
+abbrev pub good_address : RawSegment → Bool
+good_address s = nat_le 8 s.address && nat_le s.address 119
+
+abbrev pub good_direction : RawSegment → Bool
+good_direction s = nat_le s.direction 1
+
+abbrev pub good_count : RawSegment → Bool
+good_count s = cond (s.direction == 1) (nat_le 1 s.count) true
 
 -- what a segment writes
 abbrev pub writes : RawSegment → ℕ
@@ -39,9 +42,9 @@ write_counts (s ∷ ss) = writes s + write_counts ss
 abbrev pub refused : List RawSegment → List ℕ → ℕ
 refused ss bs =
     cond (nat_le 1 (length ss) && nat_le (length ss) 4)
-    (cond (every (allowed row.Address) ss)
-    (cond (every (allowed row.Direction) ss)
-    (cond (every (allowed row.Count) ss)
+    (cond (every good_address ss)
+    (cond (every good_direction ss)
+    (cond (every good_count ss)
     (cond (nat_le (counts ss) 32)
     (cond (length bs == write_counts ss) 0 6) 5) 4) 3) 2) 1
 

@@ -1,6 +1,6 @@
 -- What a table of segments means, and which are lawful. Assumes nothing.
 --     meant      what a segment of the table means, where its order writes those bytes
---     meaning    the order that a table and the bytes stand for
+--     meaning    the order that the segments and the bytes stand for
 --     lawful     the order is lawful, as a test
 --     inside     a segment's bytes are all there
 use Rattle.std.specs.Prelude.{ℕ, ◌+◌, Bool, ◌&&◌, leb, List, map, length, take, drop, nat_le}
@@ -9,7 +9,6 @@ use Rattle.orders.specs.Orders as model
 use Rattle.bus.specs.declared.Direction.{Direction}
 use Rattle.bus.specs.declared.Direction.TheVariants.{Write, Read}
 use Rattle.orders.specs.declared.Segment.{Segment}
-use Rattle.orders.specs.declared.Table.{Table}
 use Rattle.orders.specs.Tests.{every, is_byte}
 
 abbrev pub aimed : Direction → ℕ → ℕ → List ℕ → model.Segment
@@ -19,11 +18,8 @@ aimed Read a n bs = reading a n
 abbrev pub meant : List ℕ → Segment → model.Segment
 meant bs s = aimed s.direction s.address s.count (take s.count (drop s.at bs))
 
-abbrev pub used_of : Table → List Segment
-used_of t = take t.used t.segments
-
-abbrev pub meaning : Table → List ℕ → model.Order
-meaning t bs = map (meant bs) (used_of t)
+abbrev pub meaning : List Segment → List ℕ → model.Order
+meaning ss bs = map (meant bs) ss
 
 abbrev pub lawful_segment : model.Segment → Bool
 lawful_segment (writing a bs) = nat_le 8 a && (nat_le a 119 && every is_byte bs)

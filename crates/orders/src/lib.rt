@@ -11,7 +11,7 @@ pub use bytes::Bytes;
 pub use order::Order;
 
 // A segment as a caller asks for it: three numbers, lawful or not. Direction 0 writes, 1 reads.
-#[derive(Clone, Copy)]
+#[derive(Clone, Copy, Debug, PartialEq, Eq)]
 pub struct RawSegment {
     pub address: u16,
     pub direction: u16,
@@ -19,7 +19,7 @@ pub struct RawSegment {
 }
 
 // A segment of an order; the bytes of one that writes begin at `at` among those of its order.
-#[derive(Clone, Copy)]
+#[derive(Clone, Copy, Debug, PartialEq, Eq)]
 pub struct Segment {
     pub address: u8,
     pub direction: Direction,
@@ -27,15 +27,18 @@ pub struct Segment {
     pub at: u8,
 }
 
-// The segments of an order, of which the first `used` count.
-#[derive(Clone, Copy)]
-pub struct Table {
-    pub segments: [Segment; 4],
-    pub used: u8,
+impl Segment {
+    // The empty write to address 8.
+    const NOTHING: Segment = Segment {
+        address: 8,
+        direction: Direction::Write,
+        count: 0,
+        at: 0,
+    };
 }
 
 // What became of an order; segments and bytes count from 0.
-#[derive(Clone, Copy)]
+#[derive(Clone, Copy, Debug, PartialEq, Eq)]
 pub enum Outcome {
     Done,
     // no slave acknowledged that segment's address
@@ -45,7 +48,7 @@ pub enum Outcome {
 }
 
 // An answer, but for the bytes read, which go into the caller's buffer: the outcome, how often the order had lost, how many bytes were read.
-#[derive(Clone, Copy)]
+#[derive(Clone, Copy, Debug, PartialEq, Eq)]
 pub struct Answer {
     pub outcome: Outcome,
     pub losses: u16,

@@ -1,10 +1,12 @@
 // The order that a caller holds.
-ghost use Rattle.std.specs.Prelude.{◌≡◌, ◌≤◌, true, length, take};
+ghost use Rattle.std.specs.Prelude.{◌≡◌, true, length};
+ghost use Rattle.array_vec.specs.Items.{items_of};
 ghost use Rattle.orders.specs.Held.{held};
 ghost use Rattle.orders.specs.Tests.{every};
-ghost use Rattle.orders.specs.Tables.{used_of, meaning, lawful, inside};
+ghost use Rattle.orders.specs.Tables.{meaning, lawful, inside};
 
-use crate::{Bytes, Table};
+use crate::{Bytes, Segment};
+use array_vec::ArrayVec;
 
 mod fill;
 mod parts;
@@ -12,10 +14,8 @@ mod parts;
 // A lawful order: its segments and the bytes that they write. Whoever holds one holds a lawful one.
 #[derive(Clone, Copy)]
 pub struct Order {
-    table: Table,
+    segments: ArrayVec<Segment, 4>,
     bytes: Bytes,
-    ghost four: { length table.segments ≡ 4 },
-    ghost few: { table.used ≤ 4 },
-    ghost there: { every (inside (length (held bytes))) (used_of table) ≡ true },
-    ghost kept: { lawful (meaning table (held bytes)) ≡ true },
+    ghost there: { every (inside (length (held bytes))) (items_of segments) ≡ true },
+    ghost kept: { lawful (meaning (items_of segments) (held bytes)) ≡ true },
 }

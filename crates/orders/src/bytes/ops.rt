@@ -3,6 +3,7 @@ ghost use Rattle.std.specs.Prelude.{◌≡◌, [], ◌∷◌, ◌++◌, length, 
 ghost use Rattle.orders.specs.Held.{held};
 
 use super::Bytes;
+use array_vec::ArrayVec;
 
 impl Bytes {
     // None yet.
@@ -10,8 +11,7 @@ impl Bytes {
         ensures { held result ≡ [] }
     {
         Bytes {
-            items: [0; 32],
-            used: 0,
+            list: ArrayVec::new(0),
         }
     }
 
@@ -19,46 +19,35 @@ impl Bytes {
     pub fn copied(bytes: &[u8]) -> Self
         ensures { held result ≡ take 32 bytes.now }
     {
-        let mut copy = Bytes::new();
-        let room = bytes.len().min(32);
-        for b in &bytes[0..room] {
-            copy.push(*b);
+        Bytes {
+            list: ArrayVec::from_slice(bytes, 0),
         }
-        copy
     }
 
     pub fn len(&self) -> u8
         ensures { result ≡ length (held self.now) }
     {
-        self.used
+        self.list.len() as u8
     }
 
     // The byte at a place, or 0 past the end.
     pub fn at(&self, place: u8) -> u8
         ensures { result ≡ slice_index (held self.now) place }
     {
-        if place < self.used {
-            self.items[place as usize]
-        } else {
-            0
-        }
+        self.as_slice().get(place as usize).copied().unwrap_or(0)
     }
 
     // One byte more; where 32 are held, nothing is altered.
     pub fn push(&mut self, byte: u8)
         ensures { held self.new ≡ (if nat_lt (length (held self.old)) 32 then held self.old ++ (byte ∷ []) else held self.old) }
     {
-        if self.used >= 32 {
-            return;
-        }
-        self.items[self.used as usize] = byte;
-        self.used += 1;
+        let _ = self.list.push(byte);
     }
 
     // All of them.
     pub fn as_slice(&self) -> &[u8]
         ensures { result.now ≡ held self.now }
     {
-        &self.items[0..self.used as usize]
+        self.list.as_slice()
     }
 }

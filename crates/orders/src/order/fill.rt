@@ -1,68 +1,58 @@
 // How an order is made of numbers.
-ghost use Rattle.std.specs.Prelude.{◌≡◌, ◌+◌, ◌*◌, ◌<◌, ◌≤◌, [], ◌∷◌, length, if◌then◌else◌, ◌≢◌, nat_eq};
+ghost use Rattle.std.specs.Prelude.{◌≡◌, ◌+◌, ◌≤◌, [], ◌∷◌, length, if◌then◌else◌, ◌≢◌, nat_eq};
 ghost use Rattle.orders.specs.Orders.{writing};
 ghost use Rattle.refusals.specs.Numbers.{returned};
-ghost use Rattle.orders.specs.Held.{held};
 ghost use Rattle.orders.specs.Tests.{every};
-ghost use Rattle.orders.specs.Fills.{order_of, allowed, writes, counts, write_counts, refused, asked, written as written_of};
+ghost use Rattle.orders.specs.Fills.{order_of, good_address, good_direction, good_count, writes, counts, write_counts, refused, asked, written as written_of};
 
 use super::Order;
-use crate::{Bytes, RawSegment, Segment, Table};
+use crate::{Bytes, RawSegment, Segment};
+use array_vec::ArrayVec;
 use bus::Direction;
 use refusals::Refusal;
 
-// A row of the table that is checked segment by segment.
-#[derive(Clone, Copy)]
-pub(crate) enum Row {
-    Address,
-    Direction,
-    Count,
-}
-
-impl Row {
-    fn allows(self, s: RawSegment) -> bool
-        ensures { result ≡ allowed self s }
+impl RawSegment {
+    // How many bytes it writes.
+    fn written(&self) -> u16
+        ensures { result ≡ writes self.now }
     {
-        match self {
-            Row::Address => s.address >= 8 && s.address <= 119,
-            Row::Direction => s.direction <= 1,
-            Row::Count => s.direction != 1 || s.count >= 1,
-        }
-    }
-
-    fn allows_all(self, segments: &[RawSegment]) -> bool
-        ensures { result ≡ every (allowed self) segments.now }
-    {
-        for s in segments {
-            if !self.allows(*s) {
-                return false;
-            }
-        }
-        true
+        if self.direction == 0 { self.count } else { 0 }
     }
 }
 
-// How many bytes some segments have, and how many of these they write.
-#[derive(Clone, Copy)]
-struct Counts {
-    all: u32,
-    written: u32,
-}
+// Rows of the table that are checked segment by segment.
 
-fn counted(segments: &[RawSegment]) -> Counts
-    requires { length segments.now ≤ 4 }
-    ensures all { result.all ≡ counts segments.now }
-    ensures written { result.written ≡ write_counts segments.now }
+fn have_addresses(segments: &[RawSegment]) -> bool
+    ensures { result ≡ every good_address segments.now }
 {
-    let mut all = 0;
-    let mut written = 0;
-    for s in segments {
-        all += u32::from(s.count);
-        if s.direction == 0 {
-            written += u32::from(s.count);
-        }
-    }
-    Counts { all, written }
+    segments.iter().all(|s| s.address >= 8 && s.address <= 119)
+}
+
+fn have_directions(segments: &[RawSegment]) -> bool
+    ensures { result ≡ every good_direction segments.now }
+{
+    segments.iter().all(|s| s.direction <= 1)
+}
+
+fn have_counts(segments: &[RawSegment]) -> bool
+    ensures { result ≡ every good_count segments.now }
+{
+    segments.iter().all(|s| s.direction != 1 || s.count >= 1)
+}
+
+// How many bytes they have, written or read.
+fn counted(segments: &[RawSegment]) -> u32
+    requires { length segments.now ≤ 4 }
+    ensures { result ≡ counts segments.now }
+{
+    segments.iter().map(|s| u32::from(s.count)).sum()
+}
+
+fn write_counted(segments: &[RawSegment]) -> u32
+    requires { length segments.now ≤ 4 }
+    ensures { result ≡ write_counts segments.now }
+{
+    segments.iter().map(|s| u32::from(s.written())).sum()
 }
 
 // The checks, row by row down the table.
@@ -72,20 +62,19 @@ fn check(segments: &[RawSegment], bytes: &[u8]) -> Result<(), Refusal>
     if segments.len() < 1 || segments.len() > 4 {
         return Err(Refusal::SegmentCount);
     }
-    if !Row::Address.allows_all(segments) {
+    if !have_addresses(segments) {
         return Err(Refusal::BadAddress);
     }
-    if !Row::Direction.allows_all(segments) {
+    if !have_directions(segments) {
         return Err(Refusal::BadDirection);
     }
-    if !Row::Count.allows_all(segments) {
+    if !have_counts(segments) {
         return Err(Refusal::EmptyRead);
     }
-    let counts = counted(segments);
-    if counts.all > 32 {
+    if counted(segments) > 32 {
         return Err(Refusal::TooManyBytes);
     }
-    if bytes.len() != counts.written as usize {
+    if bytes.len() != write_counted(segments) as usize {
         return Err(Refusal::WriteBytes);
     }
     Ok(())
@@ -100,13 +89,12 @@ fn write_segment(segment: &mut Segment, from: RawSegment, at: u8) -> u8
     segment.address = from.address as u8;
     segment.count = from.count as u8;
     segment.at = at;
-    if from.direction == 0 {
-        segment.direction = Direction::Write;
-        at + segment.count
+    segment.direction = if from.direction == 0 {
+        Direction::Write
     } else {
-        segment.direction = Direction::Read;
-        at
-    }
+        Direction::Read
+    };
+    at + from.written() as u8
 }
 
 impl Order {
@@ -114,17 +102,8 @@ impl Order {
     pub fn new() -> Self
         ensures { order_of result ≡ writing 8 [] ∷ [] }
     {
-        let empty = Segment {
-            address: 8,
-            direction: Direction::Write,
-            count: 0,
-            at: 0,
-        };
         Order {
-            table: Table {
-                segments: [empty; 4],
-                used: 1,
-            },
+            segments: ArrayVec::from_slice(&[Segment::NOTHING], Segment::NOTHING),
             bytes: Bytes::new(),
         }
     }
@@ -136,14 +115,13 @@ impl Order {
         ensures kept { (returned result ≢ 0) → self.new ≡ self.old }
     {
         check(segments, bytes)?;
-        let mut copy = self.table;
+        let mut copy = [Segment::NOTHING; 4];
         let mut at = 0;
         for (i, s) in segments.iter().enumerate() {
-            at = write_segment(&mut copy.segments[i], *s, at);
+            at = write_segment(&mut copy[i], *s, at);
         }
-        copy.used = segments.len() as u8;
         *self = Order {
-            table: copy,
+            segments: ArrayVec::from_slice(&copy[..segments.len()], Segment::NOTHING),
             bytes: Bytes::copied(bytes),
         };
         Ok(())

@@ -14,7 +14,7 @@ impl Order {
         ensures len { result ≡ length (order_of self.now) }
         ensures lawful { Lawful (order_of self.now) }
     {
-        self.table.used
+        self.segments.len() as u8
     }
 
     // The segment with this number; past the end, the empty write to address 8.
@@ -25,16 +25,11 @@ impl Order {
         ensures small { (result.count ≤ 32) × (result.at + result.count ≤ 32) }
         ensures means { meant (held self.now.bytes) result ≡ slice_index_or (order_of self.now) i nothing }
     {
-        if i < self.table.used {
-            self.table.segments[i as usize]
-        } else {
-            Segment {
-                address: 8,
-                direction: Direction::Write,
-                count: 0,
-                at: 0,
-            }
-        }
+        self.segments
+            .as_slice()
+            .get(i as usize)
+            .copied()
+            .unwrap_or(Segment::NOTHING)
     }
 
     // The byte j that the segment i writes, or 0.
