@@ -1,5 +1,6 @@
 // What an order has, part by part.
-ghost use Rattle.std.specs.Prelude.{◌≡◌, ◌+◌, ◌≤◌, true, false, length, slice_index, slice_index_or};
+ghost use Rattle.std.specs.Prelude.{◌≡◌, ◌+◌, ◌≤◌, true, false, map, length, slice_index, slice_index_or};
+ghost use Rattle.array_vec.specs.Items.{items_of};
 ghost use Rattle.orders.specs.Orders.{Lawful, address_of, direction_of, count as count_of, bytes_of, nothing};
 ghost use Rattle.orders.specs.Fills.{order_of};
 ghost use Rattle.orders.specs.Held.{held};
@@ -17,6 +18,14 @@ impl Order {
         self.segments.len() as u8
     }
 
+    // Its segments, in order.
+    pub fn segments(&self) -> &[Segment]
+        ensures held { result.now ≡ items_of self.now.segments }
+        ensures means { map (meant (held self.now.bytes)) result.now ≡ order_of self.now }
+    {
+        self.segments.as_slice()
+    }
+
     // The segment with this number; past the end, the empty write to address 8.
     pub fn segment(&self, i: u8) -> Segment
         ensures address { result.address ≡ address_of (slice_index_or (order_of self.now) i nothing) }
@@ -25,8 +34,7 @@ impl Order {
         ensures small { (result.count ≤ 32) × (result.at + result.count ≤ 32) }
         ensures means { meant (held self.now.bytes) result ≡ slice_index_or (order_of self.now) i nothing }
     {
-        self.segments
-            .as_slice()
+        self.segments()
             .get(i as usize)
             .copied()
             .unwrap_or(Segment::NOTHING)
