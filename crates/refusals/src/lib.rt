@@ -2,7 +2,7 @@
 #![tactic(auto)]
 
 ghost use Rattle.std.specs.Prelude.{◌≡◌, Some};
-ghost use Rattle.refusals.specs.Numbers.{number as number_of};
+ghost use Rattle.refusals.specs.Numbers.{number as number_of, returned as returned_by};
 ghost use Rattle.refusals.specs.Texts.{told};
 
 use std::error::Error;
@@ -97,3 +97,13 @@ impl fmt::Display for Refusal {
 }
 
 impl Error for Refusal {}
+
+// What a call returned: 0, or its refusal's number.
+pub fn returned<T: Drop>(res: Result<T, Refusal>) -> u8
+    ensures { result ≡ returned_by res }
+{
+    match res {
+        Ok(_) => 0,
+        Err(refusal) => refusal.number(),
+    }
+}
