@@ -4,27 +4,17 @@ use Rattle.std.proofs.lemmas.List.{at_drop_more, at_drop_all, append_assoc, appe
 use Rattle.std.proofs.lemmas.Fmt.{decimal_digit, decimal_step}
 use Rattle.numerals.specs.Lines.{Numeral, Line, last, more, text, further, ReadsBack}
 
--- out is the text so far, out' the one with the next number, and whole that with all numbers
-pub push_more : (out out' whole ns : List ℕ) (i : ℕ) → i < length ns
-    → out' ≡ out ++ (32 ∷ decimal (get_or ns i 0))
-    → out ++ further (drop i ns) ≡ whole
-    → out' ++ further (drop (i + 1) ns) ≡ whole
-push_more out out' whole ns i l e inv =
-    ap (λ (t : List ℕ). t ++ further (drop (i + 1) ns)) e
-    ∙ append_assoc out (32 ∷ decimal (get_or ns i 0)) (further (drop (i + 1) ns))
-    ∙ ap (λ (t : List ℕ). out ++ t) (sym (at_drop_more further ns i 0 l))
-    ∙ inv
-
-pub push_all : (out whole ns : List ℕ) (i : ℕ) → length ns ≤ i → out ++ further (drop i ns) ≡ whole → out ≡ whole
-push_all out whole ns i l inv = sym (append-nil out) ∙ ap (λ (t : List ℕ). out ++ t) (sym (at_drop_all further ns i l)) ∙ inv
-
 further_append : (ms ns : List ℕ) → further (ms ++ ns) ≡ further ms ++ further ns
 further_append [] ns = refl
 further_append (m ∷ ms) ns =
     ap (λ (t : List ℕ). 32 ∷ (decimal m ++ t)) (further_append ms ns) ∙ ap (λ (t : List ℕ). 32 ∷ t) (sym (append_assoc (decimal m) (further ms) (further ns)))
 
-pub push_both : (first ms ns out : List ℕ) → out ≡ (first ++ further ms) ++ further ns → out ≡ first ++ further (ms ++ ns)
-push_both first ms ns out e = e ∙ append_assoc first (further ms) (further ns) ∙ ap (λ (t : List ℕ). first ++ t) (sym (further_append ms ns))
+-- out is the text so far, out' the one with the next number
+pub further_push : (first ns : List ℕ) (n : ℕ) (out out' : List ℕ) → out ≡ first ++ further ns → out' ≡ out ++ (32 ∷ decimal n)
+    → out' ≡ first ++ further (ns ++ (n ∷ []))
+further_push first ns n out out' e e' =
+    e' ∙ ap (λ (t : List ℕ). t ++ (32 ∷ decimal n)) e ∙ append_assoc first (further ns) (32 ∷ decimal n)
+    ∙ ap (λ (t : List ℕ). first ++ (further ns ++ (32 ∷ t))) (sym (append-nil (decimal n))) ∙ ap (λ (t : List ℕ). first ++ t) (sym (further_append ns (n ∷ [])))
 
 -- numbers of one, two and three digits
 two_digits : (n : ℕ) → 10 ≤ n → n < 100 → decimal n ≡ (48 + n / 10) ∷ ((48 + n % 10) ∷ [])

@@ -1,8 +1,9 @@
 -- Words of a line, and lines taken apart. Assumes nothing.
-use Rattle.std.proofs.Common.{◌≡◌, ℕ, zero, suc, ◌+◌, ◌-◌, ◌*◌, ◌<◌, ◌≤◌, Bool, true, false, cond, eqb, ltb, ◌⊎◌, List, [], ◌∷◌, ◌++◌, length, get_or, take, drop, set, Ok, Err, Result, sym, refl, ap, ◌∙◌, subst, inl, inr, append_assoc, arith, length-append, take-append-drop, ltb-false, ltb-true, lt-ltb, eqb-true, MatchResult}
+use Rattle.std.proofs.Common.{◌≡◌, ℕ, zero, suc, ◌+◌, ◌-◌, ◌*◌, ◌<◌, ◌≤◌, Bool, true, false, cond, eqb, ltb, ◌⊎◌, List, [], ◌∷◌, ◌++◌, length, get_or, take, drop, set, None, Ok, Err, Result, sym, refl, ap, ◌∙◌, subst, inl, inr, append_assoc, arith, length-append, take-append-drop, ltb-false, ltb-true, lt-ltb, eqb-true, MatchOption, MatchResult}
 use borrow.Author.Tests.{eqb-false}
-use Rattle.std.proofs.lemmas.List.{get_or_at, get_or_append_left, take_at, drop_at, drop-drop, drop_more, append-nil, take_rest, take_all, take_more_set, length-take-le}
-use Rattle.numerals.specs.Lines.{Numeral, Line, last, more, Is, OneList, LongLinesAreWrong}
+use Rattle.std.proofs.lemmas.List.{get_or_at, get_or_append_left, get_or_past, take_at, drop_at, drop-drop, drop_more, append-nil, take_rest, take_all, take_more_set, length-take-le}
+use Rattle.std.specs.declared.option.Option as std
+use Rattle.numerals.specs.Lines.{Digit, Numeral, Line, last, more, Is, OneList, LongLinesAreWrong}
 
 -- a slice of one, two or three bytes
 pub as_one : (P : List ℕ → Type 0) (w : List ℕ) → length w ≡ 1 → P (get_or w 0 0 ∷ []) → P w
@@ -23,23 +24,32 @@ as_three P (a ∷ (b ∷ [])) e p = absurd (omega arith)
 as_three P (a ∷ (b ∷ (c ∷ []))) e p = p
 as_three P (a ∷ (b ∷ (c ∷ (d ∷ w)))) e p = absurd (omega arith)
 
--- three digits are two and one more
-pub three_none : (a b c : ℕ) → ((n : ℕ) → Numeral (a ∷ (b ∷ [])) n → ⊥) → (n : ℕ) → Numeral (a ∷ (b ∷ (c ∷ []))) n → ⊥
-three_none a b c f n w = f (10 * w.0 + w.1) (w.0, w.1, w.3, w.4, w.6, refl)
+-- each byte of a numeral is a digit
+digit_at : (ds : List ℕ) (n k : ℕ) → k < length ds → Numeral ds n → (d : ℕ) × Digit (get_or ds k 0) d
+digit_at [] n k l w = absurd w
+digit_at (a ∷ []) n zero l w = (n, w)
+digit_at (a ∷ (b ∷ [])) n zero l w = (w.0, w.2)
+digit_at (a ∷ (b ∷ [])) n (suc zero) l w = (w.1, w.3)
+digit_at (a ∷ (b ∷ (c ∷ []))) n zero l w = (w.0, w.3)
+digit_at (a ∷ (b ∷ (c ∷ []))) n (suc zero) l w = (w.1, w.4)
+digit_at (a ∷ (b ∷ (c ∷ []))) n (suc (suc zero)) l w = (w.2, w.5)
+digit_at (a ∷ (b ∷ (c ∷ (d ∷ ds)))) n k l w = absurd w
+digit_at (a ∷ []) n (suc k) l w = absurd (omega (arith, l))
+digit_at (a ∷ (b ∷ [])) n (suc (suc k)) l w = absurd (omega (arith, l))
+digit_at (a ∷ (b ∷ (c ∷ []))) n (suc (suc (suc k))) l w = absurd (omega (arith, l))
+
+pub no_numeral : (ds : List ℕ) (k : ℕ) (r : std.Option ℕ) → k < length ds → r ≡ None → ((d : ℕ) → Digit (get_or ds k 0) d → ⊥)
+    → MatchOption r ((n : ℕ) → Numeral ds n → ⊥) (λ n. Numeral ds n)
+no_numeral ds k r l e f =
+    subst (λ (o : std.Option ℕ). MatchOption o ((n : ℕ) → Numeral ds n → ⊥) (λ n. Numeral ds n)) (sym e) (λ n w. let d = digit_at ds n k l w in f d.0 d.1)
 
 -- a numeral has no space, and one value
 pub no_space : (ds : List ℕ) (n k : ℕ) → Numeral ds n → get_or ds k 0 ≡ 32 → ⊥
-no_space [] n k w e = w
-no_space (a ∷ []) n zero w e = omega (arith, w.0)
-no_space (a ∷ []) n (suc k) w e = omega arith
-no_space (a ∷ (b ∷ [])) n zero w e = omega (arith, w.2.0)
-no_space (a ∷ (b ∷ [])) n (suc zero) w e = omega (arith, w.3.0)
-no_space (a ∷ (b ∷ [])) n (suc (suc k)) w e = omega arith
-no_space (a ∷ (b ∷ (c ∷ []))) n zero w e = omega (arith, w.3.0)
-no_space (a ∷ (b ∷ (c ∷ []))) n (suc zero) w e = omega (arith, w.4.0)
-no_space (a ∷ (b ∷ (c ∷ []))) n (suc (suc zero)) w e = omega (arith, w.5.0)
-no_space (a ∷ (b ∷ (c ∷ []))) n (suc (suc (suc k))) w e = omega arith
-no_space (a ∷ (b ∷ (c ∷ (d ∷ ds)))) n k w e = w
+no_space ds n k w e = go (ltb k (length ds)) refl
+  where
+    go : (v : Bool) → ltb k (length ds) ≡ v → ⊥
+    go true t = let d = digit_at ds n k (ltb-true k (length ds) t) w in omega (arith, d.1.0, e)
+    go false t = omega (arith, get_or_past ds k 0 (ltb-false k (length ds) t), e)
 
 pub one_value : (ds : List ℕ) (m n : ℕ) → Numeral ds m → Numeral ds n → m ≡ n
 one_value [] m n v w = absurd v

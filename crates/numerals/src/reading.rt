@@ -10,39 +10,10 @@ use refusals::Refusal;
 fn digit(b: u8) -> Option<u16>
     ensures { MatchOption result ((d : ℕ) → Digit b d → ⊥) (λ d. Digit b d) }
 {
-    if b < b'0' || b > b'9' {
-        return None;
+    match b {
+        b'0'..=b'9' => Some(u16::from(b - b'0')),
+        _ => None,
     }
-    Some(u16::from(b - b'0'))
-}
-
-// Two digits, the first no zero.
-fn two_digits(a: u8, b: u8) -> Option<u16>
-    ensures { MatchOption result ((n : ℕ) → Numeral (a ∷ (b ∷ [])) n → ⊥) (λ n. Numeral (a ∷ (b ∷ [])) n) }
-{
-    let Some(x) = digit(a) else {
-        return None;
-    };
-    let Some(y) = digit(b) else {
-        return None;
-    };
-    if x == 0 {
-        return None;
-    }
-    Some(10 * x + y)
-}
-
-// Three digits, the first no zero.
-fn three_digits(a: u8, b: u8, c: u8) -> Option<u16>
-    ensures { MatchOption result ((n : ℕ) → Numeral (a ∷ (b ∷ (c ∷ []))) n → ⊥) (λ n. Numeral (a ∷ (b ∷ (c ∷ []))) n) }
-{
-    let Some(x) = two_digits(a, b) else {
-        return None;
-    };
-    let Some(y) = digit(c) else {
-        return None;
-    };
-    Some(10 * x + y)
 }
 
 // The number that a word is: one to three digits, no leading zero.
@@ -51,8 +22,9 @@ fn number(word: &[u8]) -> Option<u16>
 {
     match word {
         [a] => digit(*a),
-        [a, b] => two_digits(*a, *b),
-        [a, b, c] => three_digits(*a, *b, *c),
+        [b'0', ..] => None,
+        [a, b] => Some(10 * digit(*a)? + digit(*b)?),
+        [a, b, c] => Some(100 * digit(*a)? + 10 * digit(*b)? + digit(*c)?),
         _ => None,
     }
 }
@@ -63,12 +35,7 @@ fn first_space(left: &[u8]) -> usize
     ensures before { (k : ℕ) → k < result → slice_index left.now k ≢ 32 }
     ensures found { result < length left.now → slice_index left.now result ≡ 32 }
 {
-    for (i, x) in left.iter().enumerate() {
-        if *x == b' ' {
-            return i;
-        }
-    }
-    left.len()
+    left.iter().position(|x| *x == b' ').unwrap_or(left.len())
 }
 
 // Marks the numbers of a line, unless it is no line of at most as many numbers as the book has places left.
@@ -94,8 +61,6 @@ pub(crate) fn read_numbers(line: &[u8], book: &mut Book<u16>) -> Result<(), Refu
 }
 
 // A line is one list of numbers, if any.
-pub fn one_list() -> u8
+pub fn one_list()
     ensures { OneList }
-{
-    0
-}
+{}
