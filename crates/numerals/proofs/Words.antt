@@ -1,7 +1,7 @@
 -- Words of a line, and lines taken apart. Assumes nothing.
-use Rattle.std.proofs.Common.{◌≡◌, ℕ, zero, suc, ◌+◌, ◌-◌, ◌*◌, ◌<◌, ◌≤◌, Bool, true, false, cond, eqb, ltb, ◌⊎◌, List, [], ◌∷◌, ◌++◌, length, get_or, take, drop, set, None, Ok, Err, Result, sym, refl, ap, ◌∙◌, subst, inl, inr, append_assoc, arith, length-append, take-append-drop, ltb-false, ltb-true, lt-ltb, eqb-true, MatchOption, MatchResult}
+use Rattle.std.proofs.Common.{◌≡◌, ℕ, zero, suc, ◌+◌, ◌-◌, ◌*◌, ◌<◌, ◌≤◌, Bool, true, false, cond, eqb, ltb, ◌⊎◌, List, [], ◌∷◌, ◌++◌, length, get_or, take, drop, None, Ok, Err, Result, sym, refl, ap, ◌∙◌, subst, inl, inr, append_assoc, arith, length-append, take-append-drop, ltb-false, ltb-true, lt-ltb, eqb-true, MatchOption, MatchResult}
 use borrow.Author.Tests.{eqb-false}
-use Rattle.std.proofs.lemmas.List.{get_or_at, get_or_append_left, get_or_past, take_at, drop_at, drop-drop, drop_more, append-nil, take_rest, take_all, take_more_set, length-take-le}
+use Rattle.std.proofs.lemmas.List.{get_or_at, get_or_append_left, get_or_past, take_at, drop_at, drop-drop, drop_more, append-nil, take_rest, length-take-le}
 use Rattle.std.specs.declared.option.Option as std
 use Rattle.numerals.specs.Lines.{Digit, Numeral, Line, last, more, Is, OneList, LongLinesAreWrong}
 
@@ -215,14 +215,3 @@ one_list line ns ms (more {n = n} {ns = later} ds rest e w r) (more {n = m} {ns 
     let s = one_list remnant later final (subst (λ (l : List ℕ). Line l later) t.1 r) q in
     let h : n ≡ m = one_value es n m (subst (λ (l : List ℕ). Numeral l n) t.0 w) v in
     ap (λ (x : ℕ). x ∷ later) h ∙ ap (λ (l : List ℕ). m ∷ l) s
-
--- a byte kept, or not
-pub kept_more : (bytes : List ℕ) (used b : ℕ) → used < 188 → length bytes ≡ 188 → take (used + 1) (set bytes used b) ≡ take 188 (take used bytes ++ (b ∷ []))
-kept_more bytes used b room sized =
-    let long : length (take used bytes ++ (b ∷ [])) ≤ 188 = omega (arith, length-append (take used bytes) (b ∷ []), length-take-le used bytes (omega arith)) in
-    take_more_set bytes used b (omega arith) ∙ sym (take_all 188 (take used bytes ++ (b ∷ [])) long)
-
-pub kept_no_more : (bytes : List ℕ) (used b : ℕ) → 188 ≤ used → used ≤ 188 → length bytes ≡ 188 → take used bytes ≡ take 188 (take used bytes ++ (b ∷ []))
-kept_no_more bytes used b full within sized =
-    let long : length (take used bytes) ≡ 188 = omega (arith, length-take-le used bytes (omega arith)) in
-    sym (take_at (take used bytes) (b ∷ []) 188 long)

@@ -1,5 +1,5 @@
 // A line's bytes, as many as can matter.
-ghost use Rattle.std.specs.Prelude.{◌≡◌, ◌≤◌, length};
+use array_vec::ArrayVec;
 
 mod ops;
 
@@ -8,8 +8,5 @@ pub use ops::long_lines_are_wrong;
 // The first 188 bytes of a line. No line of numbers is so long.
 #[derive(Drop)]
 pub struct Kept {
-    bytes: [u8; 188],
-    used: usize,
-    ghost within: { used ≤ 188 },
-    ghost sized: { length bytes ≡ 188 },
+    list: ArrayVec<u8, 188>,
 }

@@ -1,13 +1,10 @@
 // The numbers of a line.
-ghost use Rattle.std.specs.Prelude.{◌≡◌, ◌≤◌, length};
+use array_vec::ArrayVec;
 
 mod ops;
 
 // At most 47 numbers.
 #[derive(Drop)]
 pub struct Numbers {
-    places: [u16; 47],
-    used: usize,
-    ghost within: { used ≤ 47 },
-    ghost sized: { length places ≡ 47 },
+    list: ArrayVec<u16, 47>,
 }

@@ -4,14 +4,14 @@ ghost use Rattle.numerals.specs.Lines.{LongLinesAreWrong};
 ghost use Rattle.numerals.specs.Held.{bytes_of};
 
 use super::Kept;
+use array_vec::ArrayVec;
 
 impl Kept {
     pub fn new() -> Self
         ensures { bytes_of result ≡ [] }
     {
         Kept {
-            bytes: [0; 188],
-            used: 0,
+            list: ArrayVec::new(0),
         }
     }
 
@@ -19,29 +19,24 @@ impl Kept {
     pub fn clear(&mut self)
         ensures { bytes_of self.new ≡ [] }
     {
-        self.used = 0;
+        self.list.clear();
     }
 
     // One byte more of the line.
     pub fn keep(&mut self, byte: u8)
         ensures { bytes_of self.new ≡ take 188 (bytes_of self.old ++ (byte ∷ [])) }
     {
-        if self.used < 188 {
-            self.bytes[self.used] = byte;
-            self.used += 1;
-        }
+        self.list.extend_from_slice(&[byte]);
     }
 
     pub fn line(&self) -> &[u8]
         ensures { result.now ≡ bytes_of self.now }
     {
-        &self.bytes[0..self.used]
+        self.list.as_slice()
     }
 }
 
 // A line of over 187 bytes is no list of numbers, and neither are its first 188 bytes.
-pub fn long_lines_are_wrong() -> u8
+pub fn long_lines_are_wrong()
     ensures { LongLinesAreWrong }
-{
-    0
-}
+{}

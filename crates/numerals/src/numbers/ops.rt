@@ -5,6 +5,7 @@ ghost use Rattle.numerals.specs.Held.{numbers_of};
 
 use super::Numbers;
 use crate::reading::read_numbers;
+use array_vec::ArrayVec;
 use books::Book;
 
 impl Numbers {
@@ -16,15 +17,15 @@ impl Numbers {
         let mut book = Book::new(&mut places);
         let shape = read_numbers(line, &mut book);
         let used = book.close();
-        if shape.is_err() {
-            return None;
-        }
-        Some(Numbers { places, used })
+        shape.ok()?;
+        Some(Numbers {
+            list: ArrayVec::from_slice(&places[..used], 0),
+        })
     }
 
     pub fn as_slice(&self) -> &[u16]
         ensures { result.now ≡ numbers_of self.now }
     {
-        &self.places[0..self.used]
+        self.list.as_slice()
     }
 }
