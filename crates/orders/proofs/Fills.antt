@@ -1,5 +1,5 @@
 -- What the checks of fill give: the table that is written means the order asked for, and it is lawful. Assumes nothing.
-use Rattle.std.proofs.Common.{◌≡◌, ℕ, zero, suc, ◌+◌, ◌<◌, ◌≤◌, Bool, true, false, cond, ◌&&◌, eqb, leb, List, [], ◌∷◌, ◌++◌, map, length, get_or, take, drop, set, sym, refl, ap, ◌∙◌, subst, arith, length-take, rules}
+use Rattle.std.proofs.Common.{◌≡◌, ℕ, ◌+◌, ◌<◌, ◌≤◌, Bool, true, false, cond, ◌&&◌, eqb, leb, List, [], ◌∷◌, ◌++◌, map, length, get_or, take, drop, set, sym, refl, ap, ◌∙◌, subst, arith, length-take, rules}
 use Rattle.std.proofs.lemmas.List.{drop-drop, take_all, take_more_set, append_assoc, append-nil, at_drop_more, at_drop_all}
 use Rattle.std.proofs.lemmas.Bool.{le-leb, and_parts, and_from}
 use Rattle.orders.specs.Orders.{writing, reading, total}
@@ -8,7 +8,7 @@ use Rattle.orders.specs.declared.Segment.{Segment}
 use Rattle.bus.specs.declared.Direction.TheVariants.{Write, Read}
 use Rattle.orders.specs.Tables.{meant, aimed, lawful_segment, lawful, inside}
 use Rattle.orders.specs.Tests.{every, is_byte}
-use Rattle.orders.proofs.Holds.{every_take}
+use Rattle.orders.proofs.Holds.{every_split}
 use Rattle.orders.specs.Fills.{good_address, good_direction, good_count, writes, counts, write_counts, refused, asked, written, tabled}
 
 -- what the checks let through
@@ -63,11 +63,6 @@ total_asked (s ∷ ss) bs = go (eqb s.direction 0) (λ k. total_asked ss k)
     go true ih = let e = ih (drop s.count bs) in let l = length-take s.count bs in omega arith
     go false ih = let e = ih bs in omega arith
 
-every_drop : (f : ℕ → Bool) (n : ℕ) (xs : List ℕ) → every f xs ≡ true → every f (drop n xs) ≡ true
-every_drop f zero xs e = e
-every_drop f (suc n) [] e = refl
-every_drop f (suc n) (x ∷ xs) e = every_drop f n xs (and_parts (f x) (every f xs) e).1
-
 each_asked : (ss : List RawSegment) (bs : List ℕ) → every is_byte bs ≡ true → every good_address ss ≡ true → every good_direction ss ≡ true → every good_count ss ≡ true
     → every lawful_segment (asked ss bs) ≡ true
 each_asked [] bs b a d r = refl
@@ -84,7 +79,7 @@ each_asked (s ∷ ss) bs b a d r = go (eqb s.direction 0) refl (λ k h. each_ask
 
     go : (w : Bool) → eqb s.direction 0 ≡ w → ((k : List ℕ) → every is_byte k ≡ true → every lawful_segment (asked ss k) ≡ true)
         → every lawful_segment (cond w (writing s.address (take s.count bs) ∷ asked ss (drop s.count bs)) (reading s.address s.count ∷ asked ss bs)) ≡ true
-    go true e ih = let t = ih (drop s.count bs) (every_drop is_byte s.count bs b) in let u = every_take is_byte s.count bs b in search rules
+    go true e ih = let p = every_split is_byte s.count bs b in let t = ih (drop s.count bs) p.1 in search rules
     go false e ih = let t = ih bs b in search rules
 
 lawful_asked : (ss : List RawSegment) (bs : List ℕ) → every is_byte bs ≡ true → Passed ss bs → lawful (asked ss bs) ≡ true

@@ -1,16 +1,15 @@
 -- What is held of bytes. Assumes nothing.
-use Rattle.std.proofs.Common.{◌≡◌, ℕ, zero, suc, ◌<◌, Bool, true, ◌≤◌, List, [], ◌∷◌, length, get_or, take, refl, arith, length-take}
+use Rattle.std.proofs.Common.{◌≡◌, ℕ, zero, suc, ◌<◌, Bool, true, ◌≤◌, List, [], ◌∷◌, length, get_or, take, drop, sym, refl, ap, ◌∙◌, arith, length-take}
+use Rattle.std.proofs.lemmas.List.{take-append-drop}
+use Rattle.std.proofs.lemmas.List.Folds.{list_all-append}
 use Rattle.std.proofs.lemmas.Bool.{lt-ltb, and_parts, and_from}
 use Rattle.orders.specs.declared.bytes.Bytes.{Bytes}
 use Rattle.orders.specs.Held.{held}
 use Rattle.orders.specs.Tests.{every, is_byte}
 
-pub every_take : (f : ℕ → Bool) (n : ℕ) (xs : List ℕ) → every f xs ≡ true → every f (take n xs) ≡ true
-every_take f zero xs e = refl
-every_take f (suc n) [] e = refl
-every_take f (suc n) (x ∷ xs) e =
-    let p = and_parts (f x) (every f xs) e in
-    and_from (f x) (every f (take n xs)) p.0 (every_take f n xs p.1)
+-- each of them, so each of the first n and each of the others
+pub every_split : (f : ℕ → Bool) (n : ℕ) (xs : List ℕ) → every f xs ≡ true → (every f (take n xs) ≡ true) × (every f (drop n xs) ≡ true)
+every_split f n xs e = and_parts (every f (take n xs)) (every f (drop n xs)) (sym (list_all-append f (take n xs) (drop n xs)) ∙ ap (every f) (take-append-drop n xs) ∙ e)
 
 -- as a slice of bytes has it
 pub all_small : (bs : List ℕ) → ((i : ℕ) → get_or bs i 0 < 256) → every is_byte bs ≡ true

@@ -2,11 +2,12 @@
 --     order_of    the order that a struct holds
 --     refused     the first row of the table that refuses, or 0
 --     asked       the order asked for
-use Rattle.std.specs.Prelude.{ℕ, ◌+◌, Bool, true, cond, ◌&&◌, List, [], ◌∷◌, length, take, drop, ◌==◌, nat_le}
+use Rattle.std.specs.Prelude.{ℕ, ◌+◌, Bool, true, cond, ◌&&◌, List, [], ◌∷◌, length, take, drop, ◌==◌, nat_le, Option, Some, None}
 use Rattle.orders.specs.Orders.{writing, reading}
 use Rattle.orders.specs.Orders as model
 use Rattle.array_vec.specs.Items.{items_of}
 use Rattle.orders.specs.declared.RawSegment.{RawSegment}
+use Rattle.bus.specs.declared.Direction.{Direction}
 use Rattle.bus.specs.declared.Direction.TheVariants.{Write, Read}
 use Rattle.orders.specs.declared.Segment.{Segment}
 use Rattle.orders.specs.declared.order.Order.{Order}
@@ -16,6 +17,10 @@ use Rattle.orders.specs.Tests.{every}
 
 abbrev pub order_of : Order → model.Order
 order_of o = meaning (items_of o.segments) (held o.bytes)
+
+-- what a segment asks for
+abbrev pub kind_of : RawSegment → Option Direction
+kind_of s = cond (s.direction == 0) (Some Write) (cond (s.direction == 1) (Some Read) None)
 
 -- what each row of the table asks of one segment
 abbrev pub good_address : RawSegment → Bool

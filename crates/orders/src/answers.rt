@@ -11,11 +11,8 @@ impl Outcome {
     {
         match self {
             Outcome::Done => 0,
-            Outcome::NoAddress { segment: _ } => 1,
-            Outcome::NoByte {
-                segment: _,
-                byte: _,
-            } => 2,
+            Outcome::NoAddress { .. } => 1,
+            Outcome::NoByte { .. } => 2,
         }
     }
 
@@ -25,7 +22,7 @@ impl Outcome {
     {
         match self {
             Outcome::Done => 0,
-            Outcome::NoAddress { segment } | Outcome::NoByte { segment, byte: _ } => segment,
+            Outcome::NoAddress { segment } | Outcome::NoByte { segment, .. } => segment,
         }
     }
 
@@ -34,7 +31,7 @@ impl Outcome {
         ensures { result ≡ byte_at_fault self }
     {
         match self {
-            Outcome::NoByte { segment: _, byte } => byte,
+            Outcome::NoByte { byte, .. } => byte,
             _ => 0,
         }
     }

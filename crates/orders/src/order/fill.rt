@@ -3,7 +3,7 @@ ghost use Rattle.std.specs.Prelude.{◌≡◌, ◌+◌, ◌≤◌, [], ◌∷◌
 ghost use Rattle.orders.specs.Orders.{writing};
 ghost use Rattle.refusals.specs.Numbers.{returned};
 ghost use Rattle.orders.specs.Tests.{every};
-ghost use Rattle.orders.specs.Fills.{order_of, good_address, good_direction, good_count, writes, counts, write_counts, refused, asked, written as written_of};
+ghost use Rattle.orders.specs.Fills.{order_of, good_address, good_direction, good_count, kind_of, writes, counts, write_counts, refused, asked, written as written_of};
 
 use super::Order;
 use crate::{Bytes, RawSegment, Segment};
@@ -12,11 +12,25 @@ use bus::Direction;
 use refusals::Refusal;
 
 impl RawSegment {
+    // What it asks for, if its number is one of the two.
+    fn kind(&self) -> Option<Direction>
+        ensures { result ≡ kind_of self.now }
+    {
+        match self.direction {
+            0 => Some(Direction::Write),
+            1 => Some(Direction::Read),
+            _ => None,
+        }
+    }
+
     // How many bytes it writes.
     fn written(&self) -> u16
         ensures { result ≡ writes self.now }
     {
-        if self.direction == 0 { self.count } else { 0 }
+        match self.kind() {
+            Some(Direction::Write) => self.count,
+            _ => 0,
+        }
     }
 }
 
@@ -31,13 +45,15 @@ fn have_addresses(segments: &[RawSegment]) -> bool
 fn have_directions(segments: &[RawSegment]) -> bool
     ensures { result ≡ every good_direction segments.now }
 {
-    segments.iter().all(|s| s.direction <= 1)
+    segments.iter().all(|s| s.kind().is_some())
 }
 
 fn have_counts(segments: &[RawSegment]) -> bool
     ensures { result ≡ every good_count segments.now }
 {
-    segments.iter().all(|s| s.direction != 1 || s.count >= 1)
+    segments
+        .iter()
+        .all(|s| s.kind() != Some(Direction::Read) || s.count >= 1)
 }
 
 // How many bytes they have, written or read.
@@ -89,11 +105,7 @@ fn write_segment(segment: &mut Segment, from: RawSegment, at: u8) -> u8
     segment.address = from.address as u8;
     segment.count = from.count as u8;
     segment.at = at;
-    segment.direction = if from.direction == 0 {
-        Direction::Write
-    } else {
-        Direction::Read
-    };
+    segment.direction = from.kind().unwrap_or(Direction::Read);
     at + from.written() as u8
 }
 
