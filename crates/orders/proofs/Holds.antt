@@ -8,7 +8,7 @@ use Rattle.orders.specs.Held.{held}
 use Rattle.orders.specs.Tests.{every, is_byte}
 
 -- each of them, so each of the first n and each of the others
-pub every_split : (f : ℕ → Bool) (n : ℕ) (xs : List ℕ) → every f xs ≡ true → (every f (take n xs) ≡ true) × (every f (drop n xs) ≡ true)
+pub every_split : {X : Type 0} (f : X → Bool) (n : ℕ) (xs : List X) → every f xs ≡ true → (every f (take n xs) ≡ true) × (every f (drop n xs) ≡ true)
 every_split f n xs e = and_parts (every f (take n xs)) (every f (drop n xs)) (sym (list_all-append f (take n xs) (drop n xs)) ∙ ap (every f) (take-append-drop n xs) ∙ e)
 
 -- as a slice of bytes has it
