@@ -127,6 +127,7 @@ impl Order {
         ensures kept { (returned result ≢ 0) → self.new ≡ self.old }
     {
         check(segments, bytes)?;
+        // A plain array: no element can be lent of one inside a struct that has a ghost field.
         let mut copy = [Segment::NOTHING; 4];
         let mut at = 0;
         for (i, s) in segments.iter().enumerate() {
