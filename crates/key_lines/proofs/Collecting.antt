@@ -1,5 +1,5 @@
 -- What a collect writes. Assumes nothing.
-use Rattle.std.proofs.Common.{◌≡◌, ℕ, zero, suc, ◌-◌, ◌≤◌, cond, ltb, List, [], ◌∷◌, ◌++◌, length, take, drop, Some, None, Ok, Err, Result, sym, refl, ap, ◌∙◌, subst, arith, length-append}
+use Rattle.std.proofs.Common.{◌≡◌, ℕ, zero, suc, ◌≤◌, cond, ltb, List, [], ◌∷◌, ◌++◌, length, take, drop, Some, None, Ok, Err, Result, sym, refl, ap, ◌∙◌, subst, arith, length-append}
 use Rattle.std.proofs.lemmas.List.{take_at}
 use Rattle.refusals.specs.declared.Refusal.{Refusal}
 use Rattle.refusals.specs.Numbers.{number, returned}
@@ -68,14 +68,14 @@ answer_line w n k buffer buffer' r a ek er eq h =
     ∙ ap (λ (i : ℕ). 5 ∷ (n ∷ (i ∷ answer_numbers (answered x)))) (returned_by w n k r (Ok a) ek er eq)
     ∙ ap (λ (st : Standing). 5 ∷ (n ∷ (returned (collect_answer n 32 w.masters) ∷ answer_numbers st))) (sym h.1)
 
-pub refused_line : (w : Model) (n k : ℕ) (r : Result code.Answer Refusal) (e : Refusal) (shown : ℕ) → k ≡ n
-    → r ≡ collect_answer k 32 w.masters → r ≡ Err e → shown ≡ number e → answer_numbers (standing n w) ≡ []
-    → 5 ∷ (n ∷ (shown ∷ [])) ≡ reply (collect n) w
-refused_line w n k r e shown ek er eq es h =
-    ap (λ (i : ℕ). 5 ∷ (n ∷ (i ∷ []))) (es ∙ returned_by w n k r (Err e) ek er eq)
+pub refused_line : (w : Model) (n k : ℕ) (r : Result code.Answer Refusal) (e : Refusal) → k ≡ n
+    → r ≡ collect_answer k 32 w.masters → r ≡ Err e → answer_numbers (standing n w) ≡ []
+    → 5 ∷ (n ∷ (number e ∷ [])) ≡ reply (collect n) w
+refused_line w n k r e ek er eq h =
+    ap (λ (i : ℕ). 5 ∷ (n ∷ (i ∷ []))) (returned_by w n k r (Err e) ek er eq)
     ∙ ap (λ (l : List ℕ). 5 ∷ (n ∷ (returned (collect_answer n 32 w.masters) ∷ l))) (sym h)
 
 -- the numbers of an answer, as they were had
-pub numbers_as : (n losses : ℕ) (buffer : List ℕ) (o s b k i o' s' b' k' : ℕ) → o ≡ o' → s ≡ s' → b ≡ b' → k ≡ k' → i ≡ k'
-    → 5 ∷ (n ∷ (0 ∷ (o ∷ (s ∷ (b ∷ (losses ∷ (k ∷ take (i - 0) buffer))))))) ≡ 5 ∷ (n ∷ (0 ∷ (o' ∷ (s' ∷ (b' ∷ (losses ∷ (k' ∷ take k' buffer)))))))
-numbers_as n losses buffer o s b k i o' s' b' k' eo es eb ek ei = let j : i - 0 ≡ k' = omega arith in cc
+pub numbers_as : (kind n losses : ℕ) (buffer : List ℕ) (o s b k i o' s' b' k' : ℕ) → kind ≡ 5 → o ≡ o' → s ≡ s' → b ≡ b' → k ≡ k' → i ≡ k'
+    → kind ∷ (n ∷ (0 ∷ (o ∷ (s ∷ (b ∷ (losses ∷ (k ∷ take i buffer))))))) ≡ 5 ∷ (n ∷ (0 ∷ (o' ∷ (s' ∷ (b' ∷ (losses ∷ (k' ∷ take k' buffer)))))))
+numbers_as kind n losses buffer o s b k i o' s' b' k' e eo es eb ek ei = cc

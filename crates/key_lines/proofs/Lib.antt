@@ -1,3 +1,2 @@
 pub mod Spelling
-pub mod Running
 pub mod Collecting

@@ -1,3 +1,4 @@
 pub mod Commands
 pub mod Replies
 pub mod Readings
+pub mod Kinds

@@ -1,8 +1,11 @@
 // What a line asks of the bench.
+mod kind;
 mod numbers;
 mod segments;
 
+pub(crate) use kind::Kind;
 pub use numbers::one_meaning;
+
 use orders::Order;
 use refusals::Refusal;
 

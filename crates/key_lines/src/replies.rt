@@ -3,32 +3,31 @@ ghost use Rattle.std.specs.Prelude.{◌≡◌, ◌≤◌, [], ◌∷◌, length,
 ghost use Rattle.refusals.specs.Numbers.{returned as returned_by};
 ghost use Rattle.orders.specs.Answers.{outcome_number, segment_at_fault, byte_at_fault};
 ghost use Rattle.numerals.specs.Lines.{text as text_of};
+ghost use Rattle.key_lines.specs.Kinds.{kind_number};
 
+use crate::commands::Kind;
 use numerals::text;
 use orders::Answer;
-use refusals::Refusal;
+use refusals::{Refusal, returned};
 use std::alloc::{AllocError, Global};
 
-// What a call returned: 0, or its refusal's number.
-pub(crate) fn returned<T: Drop>(res: Result<T, Refusal>) -> u8
-    ensures { result ≡ returned_by res }
-{
-    match res {
-        Ok(_) => 0,
-        Err(refusal) => refusal.number(),
-    }
-}
-
-// A line of three numbers.
+// The line of a call that returns no more than whether it is done.
 pub(crate) fn short_reply(
     heap: Global,
-    kind: u16,
+    kind: Kind,
     number: u16,
-    returned: u8,
+    res: Result<(), Refusal>,
 ) -> Result<String, AllocError>
-    ensures { IfOk result (λ s. string_bytes s ≡ text_of (kind ∷ (number ∷ (returned ∷ [])))) }
+    ensures { IfOk result (λ s. string_bytes s ≡ text_of (kind_number kind ∷ (number ∷ (returned_by res ∷ [])))) }
 {
-    text(heap, kind, &[number, u16::from(returned)], &[])
+    text(heap, kind.number(), &[number, u16::from(returned(res))], &[])
+}
+
+// The line of a line that asks for nothing.
+pub(crate) fn wrong_line(heap: Global) -> Result<String, AllocError>
+    ensures { IfOk result (λ s. string_bytes s ≡ text_of (0 ∷ (0 ∷ (19 ∷ [])))) }
+{
+    text(heap, 0, &[0, u16::from(Refusal::BadLine.number())], &[])
 }
 
 // The line of a collect that is done; the bytes read are the front of the buffer.
@@ -50,5 +49,10 @@ pub(crate) fn answer_reply(
         answer.losses,
         u16::from(answer.count),
     ];
-    text(heap, 5, &numbers, &buffer[0..usize::from(answer.count)])
+    text(
+        heap,
+        Kind::Collect.number(),
+        &numbers,
+        &buffer[..usize::from(answer.count)],
+    )
 }

@@ -5,24 +5,11 @@ use Rattle.std.proofs.lemmas.List.{get_or_at, get_or_append_left, get_or_past, t
 use Rattle.std.specs.declared.option.Option as std
 use Rattle.numerals.specs.Lines.{Digit, Numeral, Line, last, more, Is, OneList, LongLinesAreWrong}
 
--- a slice of one, two or three bytes
+-- a slice of one byte
 pub as_one : (P : List ℕ → Type 0) (w : List ℕ) → length w ≡ 1 → P (get_or w 0 0 ∷ []) → P w
 as_one P [] e p = absurd (omega arith)
 as_one P (a ∷ []) e p = p
 as_one P (a ∷ (b ∷ w)) e p = absurd (omega arith)
-
-pub as_two : (P : List ℕ → Type 0) (w : List ℕ) → length w ≡ 2 → P (get_or w 0 0 ∷ (get_or w 1 0 ∷ [])) → P w
-as_two P [] e p = absurd (omega arith)
-as_two P (a ∷ []) e p = absurd (omega arith)
-as_two P (a ∷ (b ∷ [])) e p = p
-as_two P (a ∷ (b ∷ (c ∷ w))) e p = absurd (omega arith)
-
-pub as_three : (P : List ℕ → Type 0) (w : List ℕ) → length w ≡ 3 → P (get_or w 0 0 ∷ (get_or w 1 0 ∷ (get_or w 2 0 ∷ []))) → P w
-as_three P [] e p = absurd (omega arith)
-as_three P (a ∷ []) e p = absurd (omega arith)
-as_three P (a ∷ (b ∷ [])) e p = absurd (omega arith)
-as_three P (a ∷ (b ∷ (c ∷ []))) e p = p
-as_three P (a ∷ (b ∷ (c ∷ (d ∷ w)))) e p = absurd (omega arith)
 
 -- each byte of a numeral is a digit
 digit_at : (ds : List ℕ) (n k : ℕ) → k < length ds → Numeral ds n → (d : ℕ) × Digit (get_or ds k 0) d

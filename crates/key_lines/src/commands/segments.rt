@@ -1,60 +1,56 @@
-// The order of a line.
-ghost use Rattle.std.specs.Prelude.{◌≡◌, ℕ, ◌+◌, ◌-◌, ◌<◌, ◌≤◌, true, List, ◌++◌, length, MatchOption};
-ghost use Rattle.books.specs.Marks.{marked};
+// The order of a line. A line of 47 numbers has room for 14 segments, or for 44 bytes.
+ghost use Rattle.std.specs.Prelude.{◌≡◌, ℕ, ◌≤◌, true, false, List, ◌++◌, length, MatchOption};
+ghost use Rattle.array_vec.specs.Items.{items_of};
 ghost use Rattle.orders.specs.declared.RawSegment.{RawSegment as Raw};
 ghost use Rattle.orders.specs.Tests.{every, is_byte};
 ghost use Rattle.key_lines.specs.Commands.{segment_numbers};
 ghost use Rattle.key_lines.specs.Readings.{Filled};
 
-use books::Book;
+use array_vec::ArrayVec;
 use orders::{Order, RawSegment};
 use refusals::Refusal;
 
-// Marks so many segments; the numbers after them, unless there are too few numbers for the segments, or places.
-pub(crate) fn read_segments<'a>(
+// So many segments and the numbers after them, unless there are too few numbers.
+pub(crate) fn read_segments(
     count: u16,
-    numbers: &'a [u16],
-    book: &mut Book<RawSegment>,
-) -> Option<&'a [u16]>
-    ensures cases { MatchOption result
-        ((ss : List Raw) (bs : List ℕ) → length ss ≡ count → numbers.now ≡ segment_numbers ss ++ bs → length book.old.places.now - book.old.used < count)
-        (λ rest. (ss : List Raw) × (length ss ≡ count) × (numbers.now ≡ segment_numbers ss ++ rest.now) × (marked book.new.places.now book.new.used ≡ marked book.old.places.now book.old.used ++ ss)) }
-    ensures long { length book.new.places.now ≡ length book.old.places.now }
-    ensures named { book.new.places.ghost_name ≡ book.old.places.ghost_name }
+    numbers: &[u16],
+) -> Option<(ArrayVec<RawSegment, 14>, &[u16])>
+    requires { length numbers.now ≤ 44 }
+    ensures { MatchOption result
+        ((ss : List Raw) (bs : List ℕ) → length ss ≡ count → numbers.now ≡ segment_numbers ss ++ bs → ⊥)
+        (λ p. (length (items_of p.0) ≡ count) × (numbers.now ≡ segment_numbers (items_of p.0) ++ p.1.now)) }
 {
-    if count == 0 {
-        return Some(numbers);
-    }
-    let [address, direction, bytes, rest @ ..] = numbers else {
-        return None;
-    };
-    if book.left() == 0 {
-        return None;
-    }
-    let _ = book.mark(RawSegment {
-        address: *address,
-        direction: *direction,
-        count: *bytes,
+    let mut segments = ArrayVec::new(RawSegment {
+        address: 0,
+        direction: 0,
+        count: 0,
     });
-    read_segments(count - 1, rest, book)
+    let mut left = numbers;
+    for _ in 0..count {
+        let [address, direction, count, rest @ ..] = left else {
+            return None;
+        };
+        let segment = RawSegment {
+            address: *address,
+            direction: *direction,
+            count: *count,
+        };
+        segments.push(segment).ok()?;
+        left = rest;
+    }
+    Some((segments, left))
 }
 
-// Marks the bytes that the numbers are; whether all of them are bytes.
-pub(crate) fn read_bytes(numbers: &[u16], book: &mut Book<u8>) -> bool
-    requires { book.old.used + length numbers.now ≤ length book.old.places.now }
-    ensures all { result ≡ every is_byte numbers.now }
-    ensures marks { result ≡ true → marked book.new.places.now book.new.used ≡ marked book.old.places.now book.old.used ++ numbers.now }
-    ensures long { length book.new.places.now ≡ length book.old.places.now }
-    ensures named { book.new.places.ghost_name ≡ book.old.places.ghost_name }
+// The bytes that the numbers are, if all of them are bytes.
+pub(crate) fn read_bytes(numbers: &[u16]) -> Option<ArrayVec<u8, 44>>
+    requires { length numbers.now ≤ 44 }
+    ensures { MatchOption result (every is_byte numbers.now ≡ false) (λ bs. (every is_byte numbers.now ≡ true) × (items_of bs ≡ numbers.now)) }
 {
-    let [first, rest @ ..] = numbers else {
-        return true;
-    };
-    if *first > 255 {
-        return false;
+    let mut bytes = ArrayVec::new(0);
+    for n in numbers {
+        bytes.push(u8::try_from(*n).ok()?).ok()?;
     }
-    let _ = book.mark(*first as u8);
-    read_bytes(rest, book)
+    Some(bytes)
 }
 
 // A new order of these segments and bytes, or why there is none.
@@ -62,8 +58,6 @@ pub(crate) fn filled(segments: &[RawSegment], bytes: &[u8]) -> Result<Order, Ref
     ensures { Filled result segments.now bytes.now }
 {
     let mut order = Order::new();
-    match order.fill(segments, bytes) {
-        Ok(()) => Ok(order),
-        Err(refusal) => Err(refusal),
-    }
+    order.fill(segments, bytes)?;
+    Ok(order)
 }

@@ -1,5 +1,6 @@
 // The public call that makes each output line.
 ghost use Rattle.std.specs.Prelude.{◌≡◌, ℕ, List, [], ◌∷◌, IfOk, string_bytes};
+ghost use Rattle.refusals.specs.Numbers.{returned as returned_by};
 ghost use Rattle.orders.specs.declared.RawSegment.{RawSegment as Raw};
 ghost use Rattle.numerals.specs.Lines.{text as text_of};
 ghost use Rattle.bench.specs.Benches.{model};
@@ -10,14 +11,14 @@ ghost use Rattle.key_lines.specs.Replies.{reply, after as afterwards, Answers, A
 ghost use Rattle.key_lines.specs.Readings.{Filled, Fits, calls};
 
 use super::Session;
-use crate::commands::Command;
-use crate::replies::{answer_reply, returned, short_reply};
+use crate::commands::{Command, Kind};
+use crate::replies::{answer_reply, short_reply, wrong_line};
 use bench::Bench;
 use books::Book;
 use masters::Masters;
 use numerals::text;
 use orders::Order;
-use refusals::Refusal;
+use refusals::{Refusal, returned};
 use slaves::Slaves;
 use std::alloc::{AllocError, Global};
 
@@ -36,16 +37,13 @@ impl<M: Masters, S: Slaves> Session<M, S> {
         bench
     }
 
-    // Places an order, unless it was refused; what is returned.
-    fn place(&mut self, number: u16, order: Result<Order, Refusal>) -> u8
-        ensures answer { (ss : List Raw) (bs : List ℕ) → Filled order ss bs → 1 ∷ (number ∷ (result ∷ [])) ≡ reply (asks_place number ss bs) (model M.Masters S.Slaves self.old.bench) }
+    // Places an order, unless it was refused.
+    fn place(&mut self, number: u16, order: Result<Order, Refusal>) -> Result<(), Refusal>
+        ensures answer { (ss : List Raw) (bs : List ℕ) → Filled order ss bs → 1 ∷ (number ∷ (returned_by result ∷ [])) ≡ reply (asks_place number ss bs) (model M.Masters S.Slaves self.old.bench) }
         ensures after { (ss : List Raw) (bs : List ℕ) → Filled order ss bs → model M.Masters S.Slaves self.new.bench ≡ afterwards (asks_place number ss bs) (model M.Masters S.Slaves self.old.bench) }
         ensures call { model M.Masters S.Slaves self.new.bench ≡ final (model M.Masters S.Slaves self.old.bench) (calls (Place number order)) }
     {
-        match order {
-            Ok(order) => returned(self.bench.place(usize::from(number), order)),
-            Err(refusal) => refusal.number(),
-        }
+        self.bench.place(usize::from(number), order?)
     }
 
     fn run(&mut self, heap: Global, slots: u16) -> Result<String, AllocError>
@@ -59,9 +57,9 @@ impl<M: Masters, S: Slaves> Session<M, S> {
         let used = book.close();
         text(
             heap,
-            4,
+            Kind::Run.number(),
             &[slots, u16::from(returned(moved))],
-            &places[0..used],
+            &places[..used],
         )
     }
 
@@ -73,7 +71,7 @@ impl<M: Masters, S: Slaves> Session<M, S> {
         let mut buffer = [0u8; 32];
         match self.bench.collect(usize::from(number), &mut buffer) {
             Ok(answer) => answer_reply(heap, number, answer, &buffer),
-            Err(refusal) => short_reply(heap, 5, number, refusal.number()),
+            Err(refusal) => short_reply(heap, Kind::Collect, number, Err(refusal)),
         }
     }
 
@@ -84,23 +82,22 @@ impl<M: Masters, S: Slaves> Session<M, S> {
     {
         match command {
             Command::Place { number, order } => {
-                let answer = self.place(number, order);
-                short_reply(heap, 1, number, answer)
+                let placed = self.place(number, order);
+                short_reply(heap, Kind::Place, number, placed)
             }
             Command::Withdraw { number } => {
-                let answer = returned(self.bench.withdraw(usize::from(number)));
-                short_reply(heap, 2, number, answer)
+                let withdrawn = self.bench.withdraw(usize::from(number));
+                short_reply(heap, Kind::Withdraw, number, withdrawn)
             }
             Command::Tell {
                 number,
                 place,
                 byte,
             } => {
-                let answer = returned(
-                    self.bench
-                        .tell(usize::from(number), usize::from(place), byte),
-                );
-                short_reply(heap, 3, number, answer)
+                let told = self
+                    .bench
+                    .tell(usize::from(number), usize::from(place), byte);
+                short_reply(heap, Kind::Tell, number, told)
             }
             Command::Run { slots } => self.run(heap, slots),
             Command::Collect { number } => self.collect(heap, number),
@@ -115,7 +112,7 @@ impl<M: Masters, S: Slaves> Session<M, S> {
     {
         match Command::of_line(line) {
             Some(command) => self.carry_out(heap, command),
-            None => short_reply(heap, 0, 0, Refusal::BadLine.number()),
+            None => wrong_line(heap),
         }
     }
 }

@@ -1,10 +1,5 @@
-use Rattle.std.proofs.Common.{ℕ, ◌≤◌, List, length, sym, subst, rules}
-use Rattle.key_lines.specs.Readings.{Reads}
-use Rattle.key_lines.proofs.Spelling.{front_two}
+use Rattle.key_lines.proofs.Spelling.{no_kind}
 use Rattle.key_lines.proofs.commands.Command.of_numbers.Goals as goal
 
-pub returns : goal.returns
-returns c =
-    let ns = c.args.numbers.now in
-    let two : 2 ≤ length ns = search rules in
-    subst (λ (q : List ℕ). Reads q c.of_parts.result) (sym (front_two ns two)) c.of_parts.ensures
+pub returns-in_err-ok : goal.returns-in_err-ok
+returns-in_err-ok c = no_kind c.args.numbers.now c.try_from.result c.ok.result _ c.try_from.ensures c.ok.ensures.variant c.in_err-ok.was c.from_residual.ensures
