@@ -1,9 +1,11 @@
 -- Words of a line, and lines taken apart. Assumes nothing.
-use Rattle.std.proofs.Common.{◌≡◌, ℕ, zero, suc, ◌+◌, ◌-◌, ◌*◌, ◌<◌, ◌≤◌, Bool, true, false, cond, eqb, ltb, ◌⊎◌, List, [], ◌∷◌, ◌++◌, length, get_or, take, drop, None, Ok, Err, Result, sym, refl, ap, ◌∙◌, subst, inl, inr, append_assoc, arith, length-append, take-append-drop, ltb-false, ltb-true, lt-ltb, eqb-true, MatchOption, MatchResult}
-use borrow.Author.Tests.{eqb-false}
-use Rattle.std.proofs.lemmas.List.{get_or_at, get_or_append_left, get_or_past, take_at, drop_at, drop-drop, drop_more, append-nil, take_rest, length-take-le}
+use Rattle.std.proofs.Common.{◌≡◌, ℕ, zero, suc, ◌+◌, ◌*◌, ◌<◌, ◌≤◌, false, eqb, List, [], ◌∷◌, ◌++◌, length, map, get_or, take, set, None, sym, refl, ap, ◌∙◌, subst, arith, length-append, MatchOption}
+use Rattle.std.specs.List.{All, slice_split, join_with_byte}
+use Rattle.std.proofs.lemmas.Grind.{common_steps}
+use Rattle.std.proofs.lemmas.List.Splits.{slice_split_none, slice_split_at, length-slice_split, join_with_byte-slice_split}
+use Rattle.std.proofs.lemmas.List.{get_or_default, take_at, take_all, take_more_set, length-take-le}
 use Rattle.std.specs.declared.option.Option as std
-use Rattle.numerals.specs.Lines.{Digit, Numeral, Line, last, more, Is, OneList, LongLinesAreWrong}
+use Rattle.numerals.specs.Lines.{Digit, Numeral, Line, last, more, Is, Wrong, OneList, LongLinesAreWrong}
 
 -- a slice of one byte
 pub as_one : (P : List ℕ → Type 0) (w : List ℕ) → length w ≡ 1 → P (get_or w 0 0 ∷ []) → P w
@@ -31,12 +33,11 @@ no_numeral ds k r l e f =
     subst (λ (o : std.Option ℕ). MatchOption o ((n : ℕ) → Numeral ds n → ⊥) (λ n. Numeral ds n)) (sym e) (λ n w. let d = digit_at ds n k l w in f d.0 d.1)
 
 -- a numeral has no space, and one value
-pub no_space : (ds : List ℕ) (n k : ℕ) → Numeral ds n → get_or ds k 0 ≡ 32 → ⊥
-no_space ds n k w e = go (ltb k (length ds)) refl
-  where
-    go : (v : Bool) → ltb k (length ds) ≡ v → ⊥
-    go true t = let d = digit_at ds n k (ltb-true k (length ds) t) w in omega (arith, d.1.0, e)
-    go false t = omega (arith, get_or_past ds k 0 (ltb-false k (length ds) t), e)
+no_space : (ds : List ℕ) (n : ℕ) → Numeral ds n → All (λ b. eqb b 32 ≡ false) ds
+no_space ds n w = λ k d l.
+    let a = digit_at ds n k l w in
+    let e = get_or_default ds k d 0 l in
+    grind (arith, common_steps, a.1, e)
 
 pub one_value : (ds : List ℕ) (m n : ℕ) → Numeral ds m → Numeral ds n → m ≡ n
 one_value [] m n v w = absurd v
@@ -45,116 +46,70 @@ one_value (a ∷ (b ∷ [])) m n v w = omega (arith, v.2.0, v.3.0, v.5, w.2.0, w
 one_value (a ∷ (b ∷ (c ∷ []))) m n v w = omega (arith, v.3.0, v.4.0, v.5.0, v.7, w.3.0, w.4.0, w.5.0, w.7)
 one_value (a ∷ (b ∷ (c ∷ (d ∷ ds)))) m n v w = absurd v
 
--- i is where the first space stands, or the length
-pub record First (line : List ℕ) (i : ℕ) : Type 0 where
-  pub within : i ≤ length line
-  pub before : (k : ℕ) → k < i → get_or line k 0 ≡ 32 → ⊥
-  pub found : i < length line → get_or line i 0 ≡ 32
+-- the words of a line, cut at its spaces
+abbrev pub words : List ℕ → List (List ℕ)
+words line = slice_split (λ b. eqb b 32) line
 
-first_is : (line ds rest : List ℕ) (n i : ℕ) → First line i → line ≡ ds ++ (32 ∷ rest) → Numeral ds n → i ≡ length ds
-first_is line ds rest n i f e w = go (compare_to i (length ds))
+-- each word is the numeral of the number at its place
+abbrev pub Spells : List (List ℕ) → List ℕ → Type 0
+Spells [] [] = Unit {0}
+Spells [] (n ∷ ns) = ⊥
+Spells (w ∷ ws) [] = ⊥
+Spells (w ∷ ws) (n ∷ ns) = Numeral w n × Spells ws ns
+
+words_of : (line ns : List ℕ) → Line line ns → Spells (words line) ns
+words_of line ns (last {n = n} w) = subst (λ (ws : List (List ℕ)). Spells ws (n ∷ [])) (sym (slice_split_none (λ b. eqb b 32) line (no_space line n w))) (w, tt)
+words_of line ns (more {n = n} {ns = later} ds rest e w r) =
+    subst (λ (ws : List (List ℕ)). Spells ws (n ∷ later)) (sym (ap words e ∙ slice_split_at (λ b. eqb b 32) ds 32 rest (no_space ds n w) refl)) (w, words_of rest later r)
+
+joined : (ws : List (List ℕ)) (ns : List ℕ) → 0 < length ws → Spells ws ns → Line (join_with_byte 32 ws) ns
+joined [] ns l s = absurd (omega (arith, l))
+joined (w ∷ ws) [] l s = absurd s
+joined (w ∷ []) (n ∷ []) l s = last s.0
+joined (w ∷ []) (n ∷ (m ∷ ns)) l s = absurd s.1
+joined (w ∷ (v ∷ ws)) (n ∷ ns) l s = more w (join_with_byte 32 (v ∷ ws)) refl s.0 (joined (v ∷ ws) ns (omega arith) s.1)
+
+pub line_of : (line ns : List ℕ) → Spells (words line) ns → Line line ns
+line_of line ns s =
+    subst (λ (l : List ℕ). Line l ns) (join_with_byte-slice_split 32 line) (joined (words line) ns (omega (arith, length-slice_split (λ b. eqb b 32) line)) s)
+
+spells_long : (ws : List (List ℕ)) (ns : List ℕ) → Spells ws ns → length ws ≡ length ns
+spells_long [] [] s = refl
+spells_long [] (n ∷ ns) s = absurd s
+spells_long (w ∷ ws) [] s = absurd s
+spells_long (w ∷ ws) (n ∷ ns) s = omega (arith, spells_long ws ns s.1)
+
+spells_at : (ws : List (List ℕ)) (ns : List ℕ) (k : ℕ) (d : List ℕ) → k < length ws → Spells ws ns → (n : ℕ) × Numeral (get_or ws k d) n
+spells_at [] ns k d l s = absurd (omega (arith, l))
+spells_at (w ∷ ws) [] k d l s = absurd s
+spells_at (w ∷ ws) (n ∷ ns) zero d l s = (n, s.0)
+spells_at (w ∷ ws) (n ∷ ns) (suc k) d l s = spells_at ws ns k d (omega (arith, l)) s.1
+
+-- one word more, of what `next` gave so far
+pub spells_push : {A : Type 0} (word : A → List ℕ) (xs : List A) (x : A) (ns ns' : List ℕ) (n : ℕ)
+    → Spells (map word xs) ns → Numeral (word x) n → ns' ≡ ns ++ (n ∷ []) → Spells (map word (xs ++ (x ∷ []))) ns'
+spells_push {A} word xs x ns ns' n s m e = subst (Spells (map word (xs ++ (x ∷ [])))) (sym e) (all xs ns s)
   where
-    compare_to : (a b : ℕ) → (a < b) ⊎ ((a ≡ b) ⊎ (b < a))
-    compare_to a b = less (ltb a b) refl
-      where
-        same : (v : Bool) → eqb a b ≡ v → b ≤ a → (a < b) ⊎ ((a ≡ b) ⊎ (b < a))
-        same true t l = inr (inl (eqb-true a b t))
-        same false t l = let ne = eqb-false a b t in inr (inr (omega (arith, ne)))
+    all : (xs : List A) (ns : List ℕ) → Spells (map word xs) ns → Spells (map word (xs ++ (x ∷ []))) (ns ++ (n ∷ []))
+    all [] [] s = (m, tt)
+    all [] (k ∷ ns) s = absurd s
+    all (y ∷ xs) [] s = absurd s
+    all (y ∷ xs) (k ∷ ns) s = (s.0, all xs ns s.1)
 
-        less : (v : Bool) → ltb a b ≡ v → (a < b) ⊎ ((a ≡ b) ⊎ (b < a))
-        less true t = inl (ltb-true a b t)
-        less false t = same (eqb a b) refl (ltb-false a b t)
-
-    go : (i < length ds) ⊎ ((i ≡ length ds) ⊎ (length ds < i)) → i ≡ length ds
-    go (inl l) = absurd (no_space ds n i w (sym (get_or_append_left ds (32 ∷ rest) 0 i l) ∙ sym (ap (λ (q : List ℕ). get_or q i 0) e) ∙ f.found (omega (arith, length-append ds (32 ∷ rest), ap length e))))
-    go (inr (inl q)) = q
-    go (inr (inr l)) = absurd (f.before (length ds) l (ap (λ (q : List ℕ). get_or q (length ds) 0) e ∙ get_or_at ds 32 rest 0 (length ds) refl))
-
--- a word and what follows it
-first_last : (ds : List ℕ) (n i : ℕ) → First ds i → Numeral ds n → i ≡ length ds
-first_last ds n i f w = go (ltb i (length ds)) refl
+-- a word that is no numeral, and a word too many
+pub wrong_word : {A : Type 0} (r : std.Option A) (P : A → Type 0) (line w : List ℕ) (k : ℕ) → r ≡ None → k < length (words line) → w ≡ get_or (words line) k w
+    → ((n : ℕ) → Numeral w n → ⊥) → MatchOption r (Wrong line) P
+wrong_word {A} r P line w k er l e f = subst (λ (o : std.Option A). MatchOption o (Wrong line) P) (sym er) none-such
   where
-    go : (v : Bool) → ltb i (length ds) ≡ v → i ≡ length ds
-    go true t = absurd (no_space ds n i w (f.found (ltb-true i (length ds) t)))
-    go false t = let l = ltb-false i (length ds) t in omega (arith, f.within)
+    none-such : Wrong line
+    none-such ns is = let s = spells_at (words line) ns k w l (words_of line ns is.0) in f s.0 (subst (λ (q : List ℕ). Numeral q s.0) (sym e) s.1)
 
--- what a line says of its first word
-pub record Cut (line : List ℕ) (i : ℕ) (ns : List ℕ) : Type 0 where
-  pub value : ℕ
-  pub later : List ℕ
-  pub is : ns ≡ value ∷ later
-  pub word : Numeral (take i line) value
-  pub rest : i < length line → Line (drop (i + 1) line) later
-
-pub cut : (line ns : List ℕ) (i : ℕ) → First line i → Line line ns → Cut line i ns
-cut line ns i f (last {n = n} w) =
-    let e : i ≡ length line = first_last line n i f w in
-    record {
-      value = n;
-      later = [];
-      is = refl;
-      word = subst (λ (q : List ℕ). Numeral q n) (sym (ap (λ (m : ℕ). take m line) e ∙ ap (λ (q : List ℕ). take (length line) q) (sym (append-nil line)) ∙ take_at line [] (length line) refl)) w;
-      rest = λ l. absurd (omega (arith, e));
-    }
-cut line ns i f (more {n = n} {ns = later} ds rest e w r) =
-    let q : i ≡ length ds = first_is line ds rest n i f e w in
-    record {
-      value = n;
-      later = later;
-      is = refl;
-      word = subst (λ (v : List ℕ). Numeral v n) (sym (ap (take i) e ∙ take_at ds (32 ∷ rest) i (sym q))) w;
-      rest = λ l. subst (λ (v : List ℕ). Line v later) (sym (sym (drop-drop 1 i line) ∙ ap (drop 1) (ap (drop i) e ∙ drop_at ds (32 ∷ rest) i (sym q)))) r;
-    }
-
--- and the other way
-pub join_last : (line : List ℕ) (n i : ℕ) → i ≡ length line → Numeral (take i line) n → Line line (n ∷ [])
-join_last line n i e w = last (subst (λ (q : List ℕ). Numeral q n) (ap (λ (m : ℕ). take m line) e ∙ ap (λ (q : List ℕ). take (length line) q) (sym (append-nil line)) ∙ take_at line [] (length line) refl) w)
-
-pub join_more : (line ns : List ℕ) (n i : ℕ) → First line i → i < length line → Numeral (take i line) n → Line (drop (i + 1) line) ns → Line line (n ∷ ns)
-join_more line ns n i f l w r =
-    more (take i line) (drop (i + 1) line)
-    (sym (take-append-drop i line) ∙ ap (λ (q : List ℕ). take i line ++ q) (drop_more line i 0 l ∙ ap (λ (m : ℕ). m ∷ drop (i + 1) line) (f.found l)))
-    w r
-
--- the outcome for the rest of a line gives the outcome for the line; `marks` are those before the first number
-pub whole : {E : Type 0} (line : List ℕ) (n i : ℕ) (r : Result (Unit {0}) E) (marks marked' final : List ℕ) (room room' : ℕ)
-    → First line i → i < length line → Numeral (take i line) n
-    → marked' ≡ marks ++ (n ∷ []) → room ≡ room' + 1
-    → MatchResult r (λ _. (ns : List ℕ) × Line (drop (i + 1) line) ns × (final ≡ marked' ++ ns)) (λ _. (ns : List ℕ) → Line (drop (i + 1) line) ns → room' < length ns)
-    → MatchResult r (λ _. (ns : List ℕ) × Line line ns × (final ≡ marks ++ ns)) (λ _. (ns : List ℕ) → Line line ns → room < length ns)
-whole line n i (Ok u) marks marked' final room room' f l w em er p =
-    (n ∷ p.0, join_more line p.0 n i f l w p.1, p.2 ∙ ap (λ (q : List ℕ). q ++ p.0) em ∙ append_assoc marks (n ∷ []) p.0)
-whole line n i (Err e) marks marked' final room room' f l w em er p = λ ns r.
-    let c = cut line ns i f r in
-    omega (arith, p c.later (c.rest l), ap length c.is)
-
-pub some_number : (line ns : List ℕ) → Line line ns → 0 < length ns
-some_number line ns (last w) = omega arith
-some_number line ns (more ds rest e w r) = omega arith
-
--- as the code's slices have it
-pub from_0 : (line : List ℕ) (i n : ℕ) → Numeral (take (i - 0) line) n → Numeral (take i line) n
-from_0 line i n w = subst (λ (m : ℕ). Numeral (take m line) n) (let q : i - 0 ≡ i = omega arith in q) w
-
-pub to_0 : (line : List ℕ) (i n : ℕ) → Numeral (take i line) n → Numeral (take (i - 0) line) n
-to_0 line i n w = subst (λ (m : ℕ). Numeral (take m line) n) (let q : i ≡ i - 0 = omega arith in q) w
-
-pub whole_slice : {E : Type 0} (line : List ℕ) (n i : ℕ) (r : Result (Unit {0}) E) (marks marked' final : List ℕ) (used used' size size' : ℕ) (ok : Bool)
-    → First line i → (i ≡ length line → ⊥) → Numeral (take (i - 0) line) n
-    → ok ≡ ltb used size → used < size → used' ≡ cond ok (used + 1) used → size' ≡ size
-    → marked' ≡ cond ok (marks ++ (n ∷ [])) marks
-    → MatchResult r (λ _. (ns : List ℕ) × Line (take (length line - (i + 1)) (drop (i + 1) line)) ns × (final ≡ marked' ++ ns)) (λ _. (ns : List ℕ) → Line (take (length line - (i + 1)) (drop (i + 1) line)) ns → size' - used' < length ns)
-    → MatchResult r (λ _. (ns : List ℕ) × Line line ns × (final ≡ marks ++ ns)) (λ _. (ns : List ℕ) → Line line ns → size - used < length ns)
-whole_slice {E} line n i r marks marked' final used used' size size' ok f ne w et room eu es em p =
-    let yes : ok ≡ true = et ∙ lt-ltb used size room in
-    let u : used' ≡ used + 1 = eu ∙ ap (λ (c : Bool). cond c (used + 1) used) yes in
-    let m : marked' ≡ marks ++ (n ∷ []) = em ∙ ap (λ (c : Bool). cond c (marks ++ (n ∷ [])) marks) yes in
-    let l : i < length line = omega (arith, ne, f.within) in
-    whole {E = E} line n i r marks marked' final (size - used) (size' - used') f l (from_0 line i n w) m (omega arith)
-    (subst (λ (q : List ℕ). MatchResult r (λ _. (ns : List ℕ) × Line q ns × (final ≡ marked' ++ ns)) (λ _. (ns : List ℕ) → Line q ns → size' - used' < length ns)) (take_rest line (i + 1)) p)
-
-pub marked_one : (marks marked' : List ℕ) (n used size : ℕ) (ok : Bool) → ok ≡ ltb used size → used < size → marked' ≡ cond ok (marks ++ (n ∷ [])) marks → marked' ≡ marks ++ (n ∷ [])
-marked_one marks marked' n used size ok et room em = em ∙ ap (λ (c : Bool). cond c (marks ++ (n ∷ [])) marks) (et ∙ lt-ltb used size room)
+pub too_many : {A : Type 0} (r : std.Option A) (P : A → Type 0) (line : List ℕ) (ws : List (List ℕ)) (ns : List ℕ) → r ≡ None → length ws < length (words line)
+    → Spells ws ns → 47 ≤ length ns → MatchOption r (Wrong line) P
+too_many {A} r P line ws ns er l s full = subst (λ (o : std.Option A). MatchOption o (Wrong line) P) (sym er) none-such
+  where
+    none-such : Wrong line
+    none-such ms is = omega (arith, is.1, spells_long (words line) ms (words_of line ms is.0), spells_long ws ns s, l, full)
 
 -- how long a line is
 numeral_long : (ds : List ℕ) (n : ℕ) → Numeral ds n → length ds ≤ 3
@@ -176,29 +131,13 @@ pub long_lines_are_wrong : LongLinesAreWrong
 long_lines_are_wrong line l =
     (no_long_line line l, no_long_line (take 188 line) (let e = length-take-le 188 line (omega arith) in omega (arith, e)))
 
--- what stands before the first space, and after it
-abbrev NoSpace : List ℕ → Type 0
-NoSpace ds = (k : ℕ) → get_or ds k 0 ≡ 32 → ⊥
-
-cut_same : (ds es r q : List ℕ) → NoSpace ds → NoSpace es → ds ++ (32 ∷ r) ≡ es ++ (32 ∷ q) → (ds ≡ es) × (r ≡ q)
-cut_same [] [] r q f g e = (refl, ap (drop 1) e)
-cut_same [] (b ∷ es) r q f g e = absurd (g 0 (sym (ap (λ (l : List ℕ). get_or l 0 0) e)))
-cut_same (a ∷ ds) [] r q f g e = absurd (f 0 (ap (λ (l : List ℕ). get_or l 0 0) e))
-cut_same (a ∷ ds) (b ∷ es) r q f g e =
-    let t = cut_same ds es r q (λ k. f (suc k)) (λ k. g (suc k)) (ap (drop 1) e) in
-    let h : a ≡ b = ap (λ (l : List ℕ). get_or l 0 0) e in
-    (ap (λ (x : ℕ). x ∷ ds) h ∙ ap (λ (l : List ℕ). b ∷ l) t.0, t.1)
-
--- a line with a space is no numeral
-not_last : (line ds rest : List ℕ) (n : ℕ) → line ≡ ds ++ (32 ∷ rest) → Numeral line n → ⊥
-not_last line ds rest n e w = no_space line n (length ds) w (ap (λ (l : List ℕ). get_or l (length ds) 0) e ∙ get_or_at ds 32 rest 0 (length ds) refl)
+one_spelling : (ws : List (List ℕ)) (ns ms : List ℕ) → Spells ws ns → Spells ws ms → ns ≡ ms
+one_spelling [] [] [] s t = refl
+one_spelling [] [] (m ∷ ms) s t = absurd t
+one_spelling [] (n ∷ ns) ms s t = absurd s
+one_spelling (w ∷ ws) [] ms s t = absurd s
+one_spelling (w ∷ ws) (n ∷ ns) [] s t = absurd t
+one_spelling (w ∷ ws) (n ∷ ns) (m ∷ ms) s t = ap (λ (x : ℕ). x ∷ ns) (one_value w n m s.0 t.0) ∙ ap (λ (l : List ℕ). m ∷ l) (one_spelling ws ns ms s.1 t.1)
 
 pub one_list : OneList
-one_list line ns ms (last {n = n} v) (last {n = m} w) = ap (λ (x : ℕ). x ∷ []) (one_value line n m v w)
-one_list line ns ms (last {n = n} v) (more ds rest e w r) = absurd (not_last line ds rest n e v)
-one_list line ns ms (more ds rest e w r) (last {n = m} v) = absurd (not_last line ds rest m e v)
-one_list line ns ms (more {n = n} {ns = later} ds rest e w r) (more {n = m} {ns = final} es remnant d v q) =
-    let t = cut_same ds es rest remnant (λ k. no_space ds n k w) (λ k. no_space es m k v) (sym e ∙ d) in
-    let s = one_list remnant later final (subst (λ (l : List ℕ). Line l later) t.1 r) q in
-    let h : n ≡ m = one_value es n m (subst (λ (l : List ℕ). Numeral l n) t.0 w) v in
-    ap (λ (x : ℕ). x ∷ later) h ∙ ap (λ (l : List ℕ). m ∷ l) s
+one_list line ns ms v w = one_spelling (words line) ns ms (words_of line ns v) (words_of line ms w)

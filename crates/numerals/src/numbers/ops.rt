@@ -5,22 +5,14 @@ ghost use Rattle.numerals.specs.Held.{numbers_of};
 
 use super::Numbers;
 use crate::reading::read_numbers;
-use array_vec::ArrayVec;
-use books::Book;
 
 impl Numbers {
     // The numbers that a line is, or none where it is no line of numbers.
     pub fn read(line: &[u8]) -> Option<Numbers>
         ensures { MatchOption result (Wrong line.now) (λ ns. Is line.now (numbers_of ns)) }
     {
-        let mut places = [0u16; 47];
-        let mut book = Book::new(&mut places);
-        let shape = read_numbers(line, &mut book);
-        let used = book.close();
-        shape.ok()?;
-        Some(Numbers {
-            list: ArrayVec::from_slice(&places[..used], 0),
-        })
+        let list = read_numbers(line)?;
+        Some(Numbers { list })
     }
 
     pub fn as_slice(&self) -> &[u16]
