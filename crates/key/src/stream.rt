@@ -29,25 +29,23 @@ pub(crate) fn answer_all<M: Masters, S: Slaves>(
     let mut input = rt.reader();
     let mut output = BufWriter::new(heap, io::writer(rt))?;
     let mut kept = Kept::new();
-    let mut open = false;
+    // with a bound the loop is proved to end, though it waits for input
     for _ in 0..u64::MAX {
         let mut buffer = [0u8; 8192];
         let n = input.read(&mut buffer)?;
         if n == 0 {
             break;
         }
-        for byte in &buffer[0..n] {
+        for byte in &buffer[..n] {
             if *byte == b'\n' {
                 answer(heap, session, &kept, &mut output)?;
                 kept.clear();
-                open = false;
             } else {
                 kept.keep(*byte);
-                open = true;
             }
         }
     }
-    if open {
+    if !kept.line().is_empty() {
         answer(heap, session, &kept, &mut output)?;
     }
     output.flush()?;
