@@ -2,12 +2,13 @@
 ghost use Rattle.std.specs.Prelude.{◌≡◌};
 ghost use Rattle.orders.specs.Fills.{order_of};
 ghost use Rattle.scripts.specs.Scripts.{begin as begin_of, offer as offer_of, hear as hear_of, answer as answer_of};
+ghost use Rattle.progress.specs.Positions.{next_at};
 ghost use Rattle.progress.specs.Meaning.{progress_of, answer_in};
 
 use super::Progress;
-use crate::{Finished, Notes, Position};
+use crate::{Finished, Notes, Position, Stage};
 use bus::Symbol;
-use orders::Order;
+use orders::{Order, Outcome};
 
 impl Progress {
     // Before its first S.
@@ -28,19 +29,91 @@ impl Progress {
         self.order
     }
 
+    // What the plan of the order has next.
     pub fn offer(&self) -> Symbol
         ensures { result ≡ offer_of (progress_of self.now).todo }
     {
-        self.position.offer(&self.order)
+        let Position {
+            segment: number,
+            stage,
+        } = self.position;
+        let segment = self.order.segment(number);
+        match stage {
+            Stage::Opening => {
+                if number < self.order.len() {
+                    Symbol::Start
+                } else {
+                    Symbol::Stop
+                }
+            }
+            Stage::Address { bit } => Symbol::of_bit(segment.address, bit),
+            Stage::Direction => segment.direction.bit(),
+            Stage::Write { byte, bit } => { Symbol::of_bit(self.order.byte(number, byte), bit) }
+            Stage::ReadNinth { byte } => {
+                if byte + 1 < segment.count {
+                    Symbol::Zero
+                } else {
+                    Symbol::One
+                }
+            }
+            Stage::Closing => Symbol::Stop,
+            _ => Symbol::One,
+        }
     }
 
-    // A slot carries the symbol.
+    // Where a slot leads.
+    fn next(&self, carried: Symbol) -> Position
+        ensures { result ≡ next_at (order_of self.now.order) self.now.position.segment self.now.position.stage carried }
+    {
+        let position = self.position;
+        let segment = self.order.segment(position.segment);
+        match (position.stage, carried) {
+            (Stage::Opening, _) => {
+                if position.segment < self.order.len() {
+                    position.at(Stage::Address { bit: 6 })
+                } else {
+                    position.at(Stage::Over)
+                }
+            }
+            (Stage::Address { bit: 0 }, _) => position.at(Stage::Direction),
+            (Stage::Address { bit }, _) => position.at(Stage::Address { bit: bit - 1 }),
+            (Stage::Direction, _) => position.at(Stage::AddressNinth),
+            (Stage::AddressNinth | Stage::WriteNinth { byte: _ }, Symbol::One) => {
+                position.at(Stage::Closing)
+            }
+            (Stage::AddressNinth, _) => position.resume(segment, 0),
+            (Stage::Write { byte, bit: 0 }, _) => position.at(Stage::WriteNinth { byte }),
+            (Stage::Write { byte, bit }, _) => position.at(Stage::Write { byte, bit: bit - 1 }),
+            (Stage::WriteNinth { byte } | Stage::ReadNinth { byte }, _) => {
+                position.resume(segment, byte + 1)
+            }
+            (Stage::Read { byte, bit: 0 }, _) => position.at(Stage::ReadNinth { byte }),
+            (Stage::Read { byte, bit }, _) => position.at(Stage::Read { byte, bit: bit - 1 }),
+            (Stage::Closing | Stage::Over, _) => position.at(Stage::Over),
+        }
+    }
+
+    // A slot carries the symbol: what is noted of it, and where it leads.
     pub fn hear(&mut self, carried: Symbol)
         ensures progress { progress_of self.new ≡ hear_of (progress_of self.old) carried }
         ensures order { self.new.order ≡ self.old.order }
     {
-        self.notes.hear(self.position, carried);
-        self.position = self.position.next(&self.order, carried);
+        let next = self.next(carried);
+        let segment = self.position.segment;
+        let notes = &mut self.notes;
+        match (self.position.stage, carried) {
+            (Stage::AddressNinth, Symbol::One) => notes.outcome = Outcome::NoAddress { segment },
+            (Stage::WriteNinth { byte }, Symbol::One) => {
+                notes.outcome = Outcome::NoByte { segment, byte }
+            }
+            (Stage::Read { byte: _, bit: 0 }, x) => {
+                notes.bytes.push(2 * notes.part + x.value());
+                notes.part = 0;
+            }
+            (Stage::Read { byte: _, bit: _ }, x) => notes.part = 2 * notes.part + x.value(),
+            _ => {}
+        }
+        self.position = next;
     }
 
     // The answer, with the losses that the order had.

@@ -1,16 +1,14 @@
-use Rattle.std.proofs.Common.{refl}
+use Rattle.std.proofs.Common.{rules}
 use Rattle.progress.proofs.Moves.{has_room, moved}
 use Rattle.progress.proofs.script.Progress.hear.Goals as goal
 
-pub hear-requires : goal.hear-requires
-hear-requires c = (has_room c.args.self.now, c.args.self.now.fits)
-
 pub invariant_of-self : goal.invariant_of-self
 invariant_of-self c =
-    let m = moved c.args.self.now c.args.carried c.next-self.result c.hear.new.self c.next-self.ensures c.hear.ensures in
+    let room = has_room c.args.self.now in
+    let m = moved c.args.self.now c.args.carried _ c.match-self.self.1.1.1.0 c.next-next.ensures (search rules) in
     record { stands = m.stands; room = m.room; fits = m.fits }
 
-pub returns : goal.returns
-returns c =
-    let m = moved c.args.self.now c.args.carried c.next-self.result c.hear.new.self c.next-self.ensures c.hear.ensures in
-    record { progress = m.means; order = refl }
+pub returns-clause-progress : goal.returns-clause-progress
+returns-clause-progress c =
+    let room = has_room c.args.self.now in
+    (moved c.args.self.now c.args.carried _ c.match-self.self.1.1.1.0 c.next-next.ensures (search rules)).means
