@@ -17,7 +17,7 @@ pub use finished::Finished;
 pub use script::Progress;
 
 // Where in a segment. `bit` counts the bits that come after the next one, `byte` from 0.
-#[derive(Clone, Copy)]
+#[derive(Clone, Copy, Debug, PartialEq, Eq)]
 pub enum Stage {
     // S before the segment, or P after the last
     Opening,
@@ -33,7 +33,7 @@ pub enum Stage {
     Over,
 }
 
-#[derive(Clone, Copy)]
+#[derive(Clone, Copy, Debug, PartialEq, Eq)]
 pub struct Position {
     segment: u8,
     stage: Stage,
@@ -69,19 +69,11 @@ impl Position {
                 stage: Stage::Opening,
             };
         }
-        match segment.direction {
-            Direction::Write => self.at(Stage::Write { byte, bit: 7 }),
-            Direction::Read => self.at(Stage::Read { byte, bit: 7 }),
-        }
-    }
-
-    fn at(self, stage: Stage) -> Position
-        ensures { result ≡ record { segment = self.segment; stage = stage } }
-    {
-        Position {
-            segment: self.segment,
-            stage,
-        }
+        let stage = match segment.direction {
+            Direction::Write => Stage::Write { byte, bit: 7 },
+            Direction::Read => Stage::Read { byte, bit: 7 },
+        };
+        Position { stage, ..self }
     }
 }
 

@@ -67,30 +67,23 @@ impl Progress {
     {
         let position = self.position;
         let segment = self.order.segment(position.segment);
-        match (position.stage, carried) {
-            (Stage::Opening, _) => {
-                if position.segment < self.order.len() {
-                    position.at(Stage::Address { bit: 6 })
-                } else {
-                    position.at(Stage::Over)
-                }
-            }
-            (Stage::Address { bit: 0 }, _) => position.at(Stage::Direction),
-            (Stage::Address { bit }, _) => position.at(Stage::Address { bit: bit - 1 }),
-            (Stage::Direction, _) => position.at(Stage::AddressNinth),
-            (Stage::AddressNinth | Stage::WriteNinth { byte: _ }, Symbol::One) => {
-                position.at(Stage::Closing)
-            }
-            (Stage::AddressNinth, _) => position.resume(segment, 0),
-            (Stage::Write { byte, bit: 0 }, _) => position.at(Stage::WriteNinth { byte }),
-            (Stage::Write { byte, bit }, _) => position.at(Stage::Write { byte, bit: bit - 1 }),
+        let stage = match (position.stage, carried) {
+            (Stage::Opening, _) if position.segment < self.order.len() => Stage::Address { bit: 6 },
+            (Stage::Address { bit: 0 }, _) => Stage::Direction,
+            (Stage::Address { bit }, _) => Stage::Address { bit: bit - 1 },
+            (Stage::Direction, _) => Stage::AddressNinth,
+            (Stage::AddressNinth | Stage::WriteNinth { byte: _ }, Symbol::One) => Stage::Closing,
+            (Stage::AddressNinth, _) => return position.resume(segment, 0),
             (Stage::WriteNinth { byte } | Stage::ReadNinth { byte }, _) => {
-                position.resume(segment, byte + 1)
+                return position.resume(segment, byte + 1);
             }
-            (Stage::Read { byte, bit: 0 }, _) => position.at(Stage::ReadNinth { byte }),
-            (Stage::Read { byte, bit }, _) => position.at(Stage::Read { byte, bit: bit - 1 }),
-            (Stage::Closing | Stage::Over, _) => position.at(Stage::Over),
-        }
+            (Stage::Write { byte, bit: 0 }, _) => Stage::WriteNinth { byte },
+            (Stage::Write { byte, bit }, _) => Stage::Write { byte, bit: bit - 1 },
+            (Stage::Read { byte, bit: 0 }, _) => Stage::ReadNinth { byte },
+            (Stage::Read { byte, bit }, _) => Stage::Read { byte, bit: bit - 1 },
+            (Stage::Opening | Stage::Closing | Stage::Over, _) => Stage::Over,
+        };
+        Position { stage, ..position }
     }
 
     // A slot carries the symbol: what is noted of it, and where it leads.
