@@ -1,21 +1,17 @@
 // Contests of two masters on a bench with a gauge at 72 and a memory at 80, all bytes 0.
 use crate::show;
-use anyhow::anyhow;
 use bench::Bench;
 use bus::{Pair, Symbol, Turn};
 use chips::{Gauge, Memory};
 use masters::Masters;
 use orders::{Order, RawSegment};
 use refusals::Refusal;
-use std::alloc::{AllocError, Global};
+use std::alloc::AllocError;
 
 // An order of one segment.
 #[derive(Clone, Copy)]
 pub enum Ask {
-    Nothing,
-    WriteNone { address: u16 },
-    WriteOne { address: u16, byte: u8 },
-    WriteTwo { address: u16, bytes: [u8; 2] },
+    Write { address: u16, bytes: &'static [u8] },
     Read { address: u16, count: u16 },
 }
 
@@ -24,151 +20,125 @@ pub enum Ask {
 pub struct Question {
     pub what: &'static str,
     pub first: Ask,
-    pub second: Ask,
+    pub second: Option<Ask>,
     pub expected: &'static str,
 }
 
-pub const COUNT: u8 = 7;
+pub const QUESTIONS: [Question; 7] = [
+    Question {
+        what: "72 write against 72 read",
+        first: Ask::Write {
+            address: 72,
+            bytes: &[],
+        },
+        second: Some(Ask::Read {
+            address: 72,
+            count: 1,
+        }),
+        expected: "2 3 0 0 3 0 0 0 0 0 1 | 0 0 0 0 0 0 | 11",
+    },
+    Question {
+        what: "to 80, [0] against [0, 200]",
+        first: Ask::Write {
+            address: 80,
+            bytes: &[0],
+        },
+        second: Some(Ask::Write {
+            address: 80,
+            bytes: &[0, 200],
+        }),
+        expected: "2 3 0 3 0 0 0 0 0 0 0 0 0 0 0 0 0 0 0 1 | 0 0 0 0 0 0 | 11",
+    },
+    Question {
+        what: "to 80, [0] against [0, 7]",
+        first: Ask::Write {
+            address: 80,
+            bytes: &[0],
+        },
+        second: Some(Ask::Write {
+            address: 80,
+            bytes: &[0, 7],
+        }),
+        expected: "2 3 0 3 0 0 0 0 0 0 0 0 0 0 0 0 0 0 0 0 0 0 0 0 3 3 3 0 1 | 11 | 0 0 0 0 0 0",
+    },
+    Question {
+        what: "reading one byte against two at 72",
+        first: Ask::Read {
+            address: 72,
+            count: 1,
+        },
+        second: Some(Ask::Read {
+            address: 72,
+            count: 2,
+        }),
+        expected: "2 3 0 0 3 0 0 0 3 0 0 0 0 0 0 0 0 0 0 0 0 0 0 0 0 0 0 3 1 | 11 | 0 0 0 0 0 2 0 0",
+    },
+    Question {
+        what: "equal orders",
+        first: Ask::Read {
+            address: 72,
+            count: 1,
+        },
+        second: Some(Ask::Read {
+            address: 72,
+            count: 1,
+        }),
+        expected: "2 3 0 0 3 0 0 0 3 0 0 0 0 0 0 0 0 0 3 1 | 0 0 0 0 0 1 0 | 0 0 0 0 0 1 0",
+    },
+    Question {
+        what: "nobody at 81",
+        first: Ask::Write {
+            address: 81,
+            bytes: &[],
+        },
+        second: None,
+        expected: "2 3 0 3 0 0 0 3 0 3 1 | 0 1 0 0 0 0 | 11",
+    },
+    Question {
+        what: "gauge written 4",
+        first: Ask::Write {
+            address: 72,
+            bytes: &[4],
+        },
+        second: None,
+        expected: "2 3 0 0 3 0 0 0 0 0 0 0 0 0 0 3 0 0 3 1 | 0 2 0 0 0 0 | 11",
+    },
+];
 
-// The question with that number; past the last there is none.
-pub fn numbered(number: u8) -> Option<Question> {
-    match number {
-        0 => Some(Question {
-            what: "72 write against 72 read",
-            first: Ask::WriteNone { address: 72 },
-            second: Ask::Read {
-                address: 72,
-                count: 1,
-            },
-            expected: "2 3 0 0 3 0 0 0 0 0 1 | 0 0 0 0 0 0 | 11",
-        }),
-        1 => Some(Question {
-            what: "to 80, [0] against [0, 200]",
-            first: Ask::WriteOne {
-                address: 80,
-                byte: 0,
-            },
-            second: Ask::WriteTwo {
-                address: 80,
-                bytes: [0, 200],
-            },
-            expected: "2 3 0 3 0 0 0 0 0 0 0 0 0 0 0 0 0 0 0 1 | 0 0 0 0 0 0 | 11",
-        }),
-        2 => Some(Question {
-            what: "to 80, [0] against [0, 7]",
-            first: Ask::WriteOne {
-                address: 80,
-                byte: 0,
-            },
-            second: Ask::WriteTwo {
-                address: 80,
-                bytes: [0, 7],
-            },
-            expected: "2 3 0 3 0 0 0 0 0 0 0 0 0 0 0 0 0 0 0 0 0 0 0 0 3 3 3 0 1 | 11 | 0 0 0 0 0 0",
-        }),
-        3 => Some(Question {
-            what: "reading one byte against two at 72",
-            first: Ask::Read {
-                address: 72,
-                count: 1,
-            },
-            second: Ask::Read {
-                address: 72,
-                count: 2,
-            },
-            expected: "2 3 0 0 3 0 0 0 3 0 0 0 0 0 0 0 0 0 0 0 0 0 0 0 0 0 0 3 1 | 11 | 0 0 0 0 0 2 0 0",
-        }),
-        4 => Some(Question {
-            what: "equal orders",
-            first: Ask::Read {
-                address: 72,
-                count: 1,
-            },
-            second: Ask::Read {
-                address: 72,
-                count: 1,
-            },
-            expected: "2 3 0 0 3 0 0 0 3 0 0 0 0 0 0 0 0 0 3 1 | 0 0 0 0 0 1 0 | 0 0 0 0 0 1 0",
-        }),
-        5 => Some(Question {
-            what: "nobody at 81",
-            first: Ask::WriteNone { address: 81 },
-            second: Ask::Nothing,
-            expected: "2 3 0 3 0 0 0 3 0 3 1 | 0 1 0 0 0 0 | 11",
-        }),
-        6 => Some(Question {
-            what: "gauge written 4",
-            first: Ask::WriteOne {
-                address: 72,
-                byte: 4,
-            },
-            second: Ask::Nothing,
-            expected: "2 3 0 0 3 0 0 0 0 0 0 0 0 0 0 3 0 0 3 1 | 0 2 0 0 0 0 | 11",
-        }),
-        _ => None,
+impl Ask {
+    pub fn order(self) -> anyhow::Result<Order> {
+        let mut order = Order::new();
+        match self {
+            Ask::Write { address, bytes } => order.fill(
+                &[RawSegment {
+                    address,
+                    direction: 0,
+                    count: u16::try_from(bytes.len())?,
+                }],
+                bytes,
+            )?,
+            Ask::Read { address, count } => order.fill(
+                &[RawSegment {
+                    address,
+                    direction: 1,
+                    count,
+                }],
+                &[],
+            )?,
+        }
+        Ok(order)
     }
-}
-
-// A refusal as an error that names its number.
-pub fn accepted<T>(heap: Global, res: Result<T, Refusal>) -> anyhow::Result<T> {
-    match res {
-        Ok(value) => Ok(value),
-        Err(refusal) => Err(anyhow!(format!(in heap; "refused with {}", refusal.number())?)),
-    }
-}
-
-// The order, or None where there is none.
-pub fn order(heap: Global, ask: Ask) -> anyhow::Result<Option<Order>> {
-    let mut order = Order::new();
-    let filled = match ask {
-        Ask::Nothing => return Ok(None),
-        Ask::WriteNone { address } => order.fill(
-            &[RawSegment {
-                address,
-                direction: 0,
-                count: 0,
-            }],
-            &[],
-        ),
-        Ask::WriteOne { address, byte } => order.fill(
-            &[RawSegment {
-                address,
-                direction: 0,
-                count: 1,
-            }],
-            &[byte],
-        ),
-        Ask::WriteTwo { address, bytes } => order.fill(
-            &[RawSegment {
-                address,
-                direction: 0,
-                count: 2,
-            }],
-            &bytes,
-        ),
-        Ask::Read { address, count } => order.fill(
-            &[RawSegment {
-                address,
-                direction: 1,
-                count,
-            }],
-            &[],
-        ),
-    };
-    accepted(heap, filled)?;
-    Ok(Some(order))
 }
 
 // The ranks of the next contest, and a bar.
 fn contest<M: Masters>(
-    heap: Global,
     bench: &mut Bench<M, Pair<Gauge, Memory>>,
     text: &mut String,
 ) -> Result<(), AllocError> {
     let mut turn = Turn::Free;
     for _ in 0..329 {
         let rank = bench.step();
-        text.push_str(format!(in heap; "{rank} ")?.as_str())?;
+        write!(text, "{rank} ")?;
         if let Some(symbol) = Symbol::of_rank(rank) {
             turn = turn.next(symbol);
         }
@@ -176,12 +146,11 @@ fn contest<M: Masters>(
             break;
         }
     }
-    text.push_str("|")
+    write!(text, "|")
 }
 
 // What a master hands over: 0 and its answer, or the number of the refusal.
 fn handed<M: Masters>(
-    heap: Global,
     bench: &mut Bench<M, Pair<Gauge, Memory>>,
     number: usize,
     text: &mut String,
@@ -190,84 +159,67 @@ fn handed<M: Masters>(
     match bench.collect(number, &mut buffer) {
         Ok(answer) => {
             let outcome = answer.outcome;
-            let losses = answer.losses;
-            let count = answer.count;
-            text.push_str(format!(in heap;
-                " 0 {} {} {} {losses} {count}",
+            write!(
+                text,
+                " 0 {} {} {} {} {}",
                 outcome.number(),
                 outcome.segment(),
-                outcome.byte()
-            )?
-            .as_str())?;
-            for byte in buffer.iter().take(count as usize) {
-                text.push_str(format!(in heap; " {byte}")?.as_str())?;
+                outcome.byte(),
+                answer.losses,
+                answer.count
+            )?;
+            for byte in buffer.iter().take(answer.count as usize) {
+                write!(text, " {byte}")?;
             }
             Ok(())
         }
-        Err(refusal) => text.push_str(format!(in heap; " {}", refusal.number())?.as_str()),
+        Err(refusal) => write!(text, " {}", refusal.number()),
     }
-}
-
-// Gives a master its order, if there is one.
-fn place<M: Masters>(
-    heap: Global,
-    bench: &mut Bench<M, Pair<Gauge, Memory>>,
-    number: usize,
-    ask: Ask,
-) -> anyhow::Result<()> {
-    if let Some(order) = order(heap, ask)? {
-        accepted(heap, bench.place(number, order))?;
-    }
-    Ok(())
 }
 
 // The first contest of the two orders; whether it is as expected.
 pub fn compare<A: Masters + Drop, B: Masters + Drop>(
     rt: &(impl Print + AllocGlobal),
     makes: &str,
-    first: A,
-    second: B,
+    left: A,
+    right: B,
     question: Question,
 ) -> anyhow::Result<bool> {
-    let heap = rt.alloc();
-    let masters = Pair {
-        left: first,
-        right: second,
+    let slaves = Pair {
+        left: Gauge::new(72, [0; 4])?,
+        right: Memory::new(80)?,
     };
-    let left = accepted(heap, Gauge::new(72, [0; 4]))?;
-    let right = accepted(heap, Memory::new(80))?;
-    let mut bench = Bench::assemble(masters, Pair { left, right });
-    place(heap, &mut bench, 0, question.first)?;
-    place(heap, &mut bench, 1, question.second)?;
-    let mut came = String::new(heap);
-    contest(heap, &mut bench, &mut came)?;
-    handed(heap, &mut bench, 0, &mut came)?;
-    came.push_str(" |")?;
-    handed(heap, &mut bench, 1, &mut came)?;
+    let mut bench = Bench::assemble(Pair { left, right }, slaves);
+    bench.place(0, question.first.order()?)?;
+    if let Some(ask) = question.second {
+        bench.place(1, ask.order()?)?;
+    }
+    let mut came = String::new(rt.alloc());
+    contest(&mut bench, &mut came)?;
+    handed(&mut bench, 0, &mut came)?;
+    write!(came, " |")?;
+    handed(&mut bench, 1, &mut came)?;
     Ok(show(rt, makes, question.expected, came.as_str())?)
 }
 
-// What fill returns for a write of so many bytes to an address.
+fn returned<T: Drop>(res: Result<T, Refusal>) -> u8 {
+    res.map_or_else(Refusal::number, |_| 0)
+}
+
+// What fill returns for a write of so many bytes to an address, of which none are given.
 fn filled(address: u16, count: u16) -> u8 {
-    let mut order = Order::new();
-    match order.fill(
+    returned(Order::new().fill(
         &[RawSegment {
             address,
             direction: 0,
             count,
         }],
         &[],
-    ) {
-        Ok(()) => 0,
-        Err(refusal) => refusal.number(),
-    }
+    ))
 }
 
 fn made(address: u16) -> u8 {
-    match Gauge::new(address, [0; 4]) {
-        Ok(_) => 0,
-        Err(refusal) => refusal.number(),
-    }
+    returned(Gauge::new(address, [0; 4]))
 }
 
 pub fn refusals(rt: &(impl Print + AllocGlobal)) -> anyhow::Result<bool> {
