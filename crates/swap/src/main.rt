@@ -5,24 +5,20 @@ mod cases;
 mod play;
 
 use anyhow::anyhow;
+use cases::cases;
 use driver::Driver;
 use line::Line;
 
 fn run(rt: &(impl Print + AllocGlobal)) -> anyhow::Result<()> {
     let heap = rt.alloc();
-    for number in 0..cases::COUNT {
-        println!(rt; "{}", cases::name(number))?;
-        let first = cases::first(heap, number)?;
-        let second = cases::second(heap, number)?;
-        let lines = play::played(heap, Line::new(), Line::new(), first, second)?;
+    for case in cases()? {
+        println!(rt; "{}", case.name)?;
+        let lines = play::played(heap, Line::new(), Line::new(), case)?;
         println!(rt; "  {lines}")?;
-        let left = play::played(heap, Driver::new(), Line::new(), first, second)?;
-        let right = play::played(heap, Line::new(), Driver::new(), first, second)?;
-        let both = play::played(heap, Driver::new(), Driver::new(), first, second)?;
-        if left.as_str() != lines.as_str()
-            || right.as_str() != lines.as_str()
-            || both.as_str() != lines.as_str()
-        {
+        let left = play::played(heap, Driver::new(), Line::new(), case)?;
+        let right = play::played(heap, Line::new(), Driver::new(), case)?;
+        let both = play::played(heap, Driver::new(), Driver::new(), case)?;
+        if left != lines || right != lines || both != lines {
             return Err(anyhow!("the register master differs"));
         }
         println!(rt; "  same")?;
