@@ -2,9 +2,20 @@
 use Rattle.std.proofs.Common.{◌≡◌, ℕ, ◌+◌, ◌-◌, ◌≤◌, min, Bool, true, false, cond, List, [], ◌++◌, length, take, drop, sym, ap, ◌∙◌, arith, length-drop}
 use borrow.Rule.Slice.PartMut.{put_mid}
 use Rattle.std.specs.List.{between}
-use Rattle.std.proofs.lemmas.List.{append_assoc, append-nil, length-take-le, take_rest, take-append-drop, take_at, drop_at, drop-drop, drop_all, take-take}
+use Rattle.std.proofs.lemmas.List.{append_assoc, append-nil, length-take, length-take-le, take_all, take_min, take_rest, take-append-drop, take_at, drop_at, drop-drop, drop_all, take-take}
 use Rattle.std.proofs.lemmas.Slice.{between_is}
+use Rattle.orders.specs.declared.bytes.Bytes.{Bytes}
+use Rattle.orders.specs.Held.{held}
 use Rattle.progress.specs.Handing.{put_at}
+
+pub held_few : (b : Bytes) → length (held b) ≤ 32
+held_few b = simp length-take (omega (arith, b.within))
+
+-- the first n of a few bytes, as they are copied
+pub first_few : (b : Bytes) (n : ℕ) → take 32 (take (min n (length (held b))) (held b)) ≡ take n (held b)
+first_few b n =
+    let few = held_few b in
+    take_all 32 (take (min n (length (held b))) (held b)) (simp length-take (omega arith)) ∙ take_min n (held b)
 
 -- a write to `buffer[at..]`
 pub put_part : (buffer bytes part : List ℕ) (at : ℕ) → at + length bytes ≤ length buffer → part ≡ bytes ++ drop (length bytes) (take (length buffer - at) (drop at buffer)) → put_mid at (length buffer - at) buffer part ≡ put_at buffer at bytes

@@ -1,5 +1,5 @@
 // Handing an answer over, segment by segment.
-ghost use Rattle.std.specs.Prelude.{◌≡◌, ◌+◌, ◌≤◌, min, ◌++◌, length, drop, if◌then◌else◌};
+ghost use Rattle.std.specs.Prelude.{◌≡◌, ◌+◌, ◌≤◌, min, ◌++◌, length, take, drop, if◌then◌else◌};
 ghost use Rattle.std.specs.List.{between};
 ghost use Rattle.orders.specs.Held.{held};
 ghost use Rattle.orders.specs.Orders.{read_of};
@@ -37,16 +37,33 @@ fn hand_part(segment: Segment, bytes: &Bytes, buffer: &mut [u8], at: usize) -> u
     next
 }
 
+// How many bytes an order reads.
+fn read_count(order: &Order) -> usize
+    ensures { result ≡ read_total (order_of order.now) }
+{
+    let mut total = 0;
+    for i in 0..order.len() {
+        let segment = order.segment(i);
+        if let Direction::Read = segment.direction {
+            total += segment.count as usize;
+        }
+    }
+    total
+}
+
 impl Finished {
+    // Of the bytes, no more are kept than the order reads.
     pub fn new(order: Order, outcome: Outcome, losses: u16, bytes: Bytes) -> Finished
-        requires { length (held bytes) ≤ read_total (order_of order) }
-        ensures { answer_in result ≡ record { outcome = outcome; losses = losses; bytes = held bytes } }
+        ensures answer { answer_in result ≡ record { outcome = outcome; losses = losses; bytes = take (read_total (order_of order)) (held bytes) } }
+        ensures whole { (length (held bytes) ≤ read_total (order_of order)) → answer_in result ≡ record { outcome = outcome; losses = losses; bytes = held bytes } }
     {
+        let bytes = bytes.as_slice();
+        let kept = read_count(&order).min(bytes.len());
         Finished {
             order,
             outcome,
             losses,
-            bytes,
+            bytes: Bytes::copied(&bytes[..kept]),
         }
     }
 

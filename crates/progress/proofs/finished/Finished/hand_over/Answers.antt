@@ -1,4 +1,4 @@
-use Rattle.std.proofs.Common.{◌≡◌, ◌+◌, ◌<◌, ◌≤◌, min, cond, ◌++◌, length, get_or, take, drop, ap, ◌∙◌, arith, length-take}
+use Rattle.std.proofs.Common.{◌≡◌, ◌+◌, ◌<◌, ◌≤◌, min, cond, ◌++◌, length, get_or, take, drop, ap, ◌∙◌, arith}
 use Rattle.std.specs.List.{between}
 use Rattle.std.proofs.lemmas.List.{at_drop_more, at_drop_all, take_all}
 use Rattle.orders.specs.Orders.{nothing, read_of, reads, count}
@@ -6,7 +6,7 @@ use Rattle.orders.specs.Held.{held}
 use Rattle.orders.specs.Fills.{order_of}
 use Rattle.progress.specs.Plans.{read_total}
 use Rattle.progress.specs.Handing.{put_at}
-use Rattle.progress.proofs.Handing.{part_next, put_next}
+use Rattle.progress.proofs.Handing.{held_few, part_next, put_next}
 use Rattle.progress.proofs.finished.Finished.hand_over.Goals as goal
 
 pub loop-i-preserved : goal.loop-i-preserved
@@ -19,7 +19,7 @@ loop-i-preserved c =
     let next = c.hand_part-at.result in
     let low : c.loop-i.i < length o = omega (arith, c.len-i-end.ensures.len) in
     let more = at_drop_more read_total o c.loop-i.i nothing low in
-    let few : length bytes ≤ 32 = simp length-take (omega (arith, c.args.self.now.bytes.within)) in
+    let few = held_few c.args.self.now.bytes in
     let is : next ≡ cond (reads here) (min (at + count here) (length bytes)) at =
     c.hand_part-at.ensures.next
     ∙ ap (λ d. cond (read_of d) (min (at + c.segment.result.count) (length bytes)) at) c.segment.ensures.direction
