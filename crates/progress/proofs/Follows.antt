@@ -8,19 +8,12 @@ use Rattle.bus.specs.declared.Symbol.TheVariants.{Zero, Stop, Start, One}
 use Rattle.orders.specs.declared.Outcome.{Outcome}
 use Rattle.orders.specs.declared.Outcome.TheVariants.{NoAddress, NoByte}
 use Rattle.orders.specs.Orders.{Segment, writing, reading, Order, address_of, count, reads, bytes_of, nothing}
-use Rattle.scripts.specs.Scripts.{Act, say, ask, spell, send, more, receive, body, plan, offer, Notes, hear, moved_on, answered_ninth, blamed}
+use Rattle.scripts.specs.Scripts.{Act, say, ask, spell, send, receive, body, plan, Notes, hear, moved_on, answered_ninth, blamed}
 use Rattle.progress.specs.declared.Stage.{Stage}
 use Rattle.progress.specs.declared.Stage.TheVariants.{Opening, Address, Direction, AddressNinth, Write, WriteNinth, Read, ReadNinth, Closing, Over}
 use Rattle.progress.specs.declared.Position.{Position}
-use Rattle.progress.specs.Positions.{here, heading, resume, unless_one, offer_at, next_at, blame_one, noted_at, sound}
+use Rattle.progress.specs.Positions.{here, heading, resume, unless_one, next_at, blame_one, noted_at, sound}
 use Rattle.progress.specs.Plans.{others, payload, todo_at, progress_at}
-
-more_is : (n j : ℕ) → cond (ltb j n) Zero One ≡ more (n - j)
-more_is n j = go (ltb j n) refl
-  where
-    go : (b : Bool) → ltb j n ≡ b → cond b Zero One ≡ more (n - j)
-    go true e = let h = ltb-true j n e in let q : n - j ≡ suc (n - suc j) = omega arith in rw q refl
-    go false e = let h = ltb-false j n e in let q : n - j ≡ 0 = omega arith in rw q refl
 
 module _ (ss : Order) where
   abbrev todo : Position → List Act
@@ -66,23 +59,6 @@ module _ (ss : Order) where
 
   with_notes : (s : Position) (k : List Act) (n : Notes) → todo s ≡ k → progress_at ss s n ≡ record { todo = k; notes = n }
   with_notes s k n e = rw e refl
-
-  -- it offers what its plan has next
-  pub offers : (i : ℕ) (st : Stage) → offer_at ss i st ≡ offer (todo_at ss i st)
-  offers i Opening = go (ltb i (length ss)) refl
-    where
-      go : (b : Bool) → ltb i (length ss) ≡ b → cond b Start Stop ≡ offer (plan i (drop i ss))
-      go true q = let h = ltb-true i (length ss) q in rw (drop-cons ss i nothing h) refl
-      go false q = let h = ltb-false i (length ss) q in rw (drop_all i ss h) refl
-  offers i (Address n) = refl
-  offers i Direction = refl
-  offers i AddressNinth = refl
-  offers i (Write j n) = refl
-  offers i (WriteNinth j) = refl
-  offers i (Read j n) = refl
-  offers i (ReadNinth j) = more_is (count (here ss i)) (j + 1)
-  offers i Closing = refl
-  offers i Over = refl
 
   -- it moves on, and notes, as its plan does
   pub follows : (i : ℕ) (st : Stage) (n : Notes) (x : Symbol) → sound ss (record { segment = i; stage = st }) ≡ true

@@ -1,15 +1,14 @@
 -- A contender's position in its order: the segment, and the stage in it. Assumes nothing.
---     offer_at    what it offers there
 --     next_at     where a slot that carries a symbol leads
 --     noted_at    what is noted of that slot
 --     sound       a position that an order can come to
-use Rattle.std.specs.Prelude.{ℕ, zero, suc, ◌+◌, ◌-◌, ◌/◌, ◌^◌, Bool, true, false, cond, not, ◌&&◌, length, nat_le, nat_lt, slice_index, slice_index_or}
+use Rattle.std.specs.Prelude.{ℕ, zero, suc, ◌+◌, ◌-◌, ◌^◌, Bool, true, false, cond, not, ◌&&◌, length, nat_le, nat_lt, slice_index_or}
 use Rattle.bus.specs.declared.Symbol.{Symbol}
 use Rattle.bus.specs.declared.Symbol.TheVariants.{Zero, Stop, Start, One}
 use Rattle.orders.specs.declared.Outcome.TheVariants.{NoAddress, NoByte}
-use Rattle.orders.specs.Orders.{Segment, Order, address_of, direction_of, count, reads, bytes_of, nothing}
+use Rattle.orders.specs.Orders.{Segment, Order, direction_of, count, reads, nothing}
 use Rattle.scripts.specs.Scripts.{Notes, noted, blamed}
-use Rattle.bus.specs.Symbols.{bit, heading_bit}
+use Rattle.bus.specs.Symbols.{heading_bit}
 use Rattle.progress.specs.declared.Stage.{Stage}
 use Rattle.progress.specs.declared.Stage.TheVariants.{Opening, Address, Direction, AddressNinth, Write, WriteNinth, Read, ReadNinth, Closing, Over}
 use Rattle.progress.specs.declared.Position.{Position}
@@ -29,18 +28,6 @@ unless_one i Zero s = s
 unless_one i Stop s = s
 unless_one i Start s = s
 unless_one i One s = record { segment = i; stage = Closing }
-
-abbrev pub offer_at : Order → ℕ → Stage → Symbol
-offer_at ss i Opening = cond (nat_lt i (length ss)) Start Stop
-offer_at ss i (Address n) = bit (address_of (here ss i) / 2 ^ n)
-offer_at ss i Direction = heading (here ss i)
-offer_at ss i AddressNinth = One
-offer_at ss i (Write j n) = bit (slice_index (bytes_of (here ss i)) j / 2 ^ n)
-offer_at ss i (WriteNinth j) = One
-offer_at ss i (Read j n) = One
-offer_at ss i (ReadNinth j) = cond (nat_lt (j + 1) (count (here ss i))) Zero One
-offer_at ss i Closing = Stop
-offer_at ss i Over = One
 
 abbrev pub next_at : Order → ℕ → Stage → Symbol → Position
 next_at ss i Opening x = cond (nat_lt i (length ss)) (record { segment = i; stage = Address 6 }) (record { segment = i; stage = Over })
