@@ -5,7 +5,7 @@ use bus::{Pair, Symbol, Turn};
 use chips::{Gauge, Memory};
 use masters::Masters;
 use orders::{Order, RawSegment};
-use refusals::Refusal;
+use refusals::returned;
 use std::alloc::AllocError;
 
 // An order of one segment.
@@ -200,10 +200,6 @@ pub fn compare<A: Masters + Drop, B: Masters + Drop>(
     write!(came, " |")?;
     handed(&mut bench, 1, &mut came)?;
     Ok(show(rt, makes, question.expected, came.as_str())?)
-}
-
-fn returned<T: Drop>(res: Result<T, Refusal>) -> u8 {
-    res.map_or_else(Refusal::number, |_| 0)
 }
 
 // What fill returns for a write of so many bytes to an address, of which none are given.

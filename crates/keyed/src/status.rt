@@ -1,41 +1,14 @@
 // The status of a register master, slot by slot.
 use crate::contests::Ask;
 use crate::show;
-use bus::Symbol;
 use chips::Gauge;
 use driver::Driver;
 use line::Line;
 use masters::Masters;
 use slaves::Slaves;
-use std::alloc::{AllocError, Global};
 
-// One slot with a slave and, where there is one, another master.
-fn slot<S: Slaves>(driver: &mut Driver, other: &mut Line, slave: &mut S) {
-    let carried = Symbol::lesser(driver.offer(), other.offer()).lesser(slave.offer());
-    driver.hear(carried);
-    other.hear(carried);
-    slave.hear(carried);
-}
-
-// The upper eight bits of the status, 0s and 1s, after the slots with these numbers, counted from 1.
-fn after<S: Slaves>(
-    heap: Global,
-    driver: &mut Driver,
-    other: &mut Line,
-    slave: &mut S,
-    slots: &[u8],
-) -> Result<String, AllocError> {
-    let mut text = String::new(heap);
-    for number in 1..=20u8 {
-        slot(driver, other, slave);
-        if slots.contains(&number) {
-            write!(text, " {:08b}", driver.status() >> 8)?;
-        }
-    }
-    Ok(text)
-}
-
-// A register master with one order, and perhaps a line master with another, at a gauge whose registers are 0.
+// The upper eight bits of a register master's status after the slots with these numbers, counted from 1.
+// It has one order, and perhaps a line master has another, at a gauge whose registers are 0.
 fn row(
     rt: &(impl Print + AllocGlobal),
     what: &str,
@@ -51,7 +24,16 @@ fn row(
     if let Some(ask) = against {
         other.place(ask.order()?)?;
     }
-    let came = after(rt.alloc(), &mut driver, &mut other, &mut gauge, slots)?;
+    let mut came = String::new(rt.alloc());
+    for number in 1..=20u8 {
+        let carried = driver.offer().lesser(other.offer()).lesser(gauge.offer());
+        driver.hear(carried);
+        other.hear(carried);
+        gauge.hear(carried);
+        if slots.contains(&number) {
+            write!(came, " {:08b}", driver.status() >> 8)?;
+        }
+    }
     Ok(show(rt, what, expected, came.as_str())?)
 }
 

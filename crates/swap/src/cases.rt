@@ -1,6 +1,7 @@
 // Pairs of orders, for a gauge at 72 and a memory at 80.
 use orders::{Order, RawSegment};
 use refusals::Refusal;
+use std::alloc::Global;
 
 // What a case is about, and the orders of master 0 and 1.
 #[derive(Clone, Copy)]
@@ -32,8 +33,8 @@ fn filled(segments: &[RawSegment], bytes: &[u8]) -> Result<Order, Refusal> {
     Ok(order)
 }
 
-pub fn cases() -> Result<[Case; 8], Refusal> {
-    Ok([
+pub fn cases(heap: Global) -> anyhow::Result<Vec<Case>> {
+    Ok(vec![in heap;
         Case {
             name: "a write against a read of another address",
             first: filled(&[write(80, 2)], &[0, 7])?,
@@ -77,5 +78,5 @@ pub fn cases() -> Result<[Case; 8], Refusal> {
                 &[3],
             )?,
         },
-    ])
+    ]?)
 }

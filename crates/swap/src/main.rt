@@ -11,7 +11,7 @@ use line::Line;
 
 fn run(rt: &(impl Print + AllocGlobal)) -> anyhow::Result<()> {
     let heap = rt.alloc();
-    for case in cases()? {
+    for case in cases(heap)? {
         println!(rt; "{}", case.name)?;
         let lines = play::played(heap, Line::new(), Line::new(), case)?;
         println!(rt; "  {lines}")?;

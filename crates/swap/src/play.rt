@@ -5,12 +5,8 @@ use books::Book;
 use bus::{Pair, Symbol};
 use chips::{Gauge, Memory};
 use masters::Masters;
-use refusals::Refusal;
+use refusals::returned;
 use std::alloc::{AllocError, Global};
-
-fn returned(res: Result<(), Refusal>) -> u8 {
-    res.map_or_else(Refusal::number, |()| 0)
-}
 
 // Runs at most n slots, and writes them down.
 fn run<M: Masters>(

@@ -1,7 +1,7 @@
-use Rattle.std.proofs.Common.{◌≡◌, ◌+◌, ◌<◌, min, cond, ◌++◌, length, get_or, take, drop, ap, ◌∙◌, arith}
+use Rattle.std.proofs.Common.{◌≡◌, ◌+◌, ◌<◌, length, get_or, drop, ap, ◌∙◌, arith, refl, rules}
 use Rattle.std.specs.List.{between}
 use Rattle.std.proofs.lemmas.List.{at_drop_more, at_drop_all, take_all}
-use Rattle.orders.specs.Orders.{nothing, read_of, reads, count}
+use Rattle.orders.specs.Orders.{nothing, reads, count}
 use Rattle.orders.specs.Held.{held}
 use Rattle.orders.specs.Fills.{order_of}
 use Rattle.progress.specs.Plans.{read_total}
@@ -20,11 +20,7 @@ loop-i-preserved c =
     let low : c.loop-i.i < length o = omega (arith, c.len-i-end.ensures.len) in
     let more = at_drop_more read_total o c.loop-i.i nothing low in
     let few = held_few c.args.self.now.bytes in
-    let is : next ≡ cond (reads here) (min (at + count here) (length bytes)) at =
-    c.hand_part-at.ensures.next
-    ∙ ap (λ d. cond (read_of d) (min (at + c.segment.result.count) (length bytes)) at) c.segment.ensures.direction
-    ∙ ap (λ n. cond (reads here) (min (at + n) (length bytes)) at) c.segment.ensures.count in
-    let p = part_next (reads here) (count here) at (length bytes) (read_total (drop (c.loop-i.i + 1) o)) next is inv.0 (omega (arith, inv.1)) in (
+    let p = part_next (reads here) (count here) at (length bytes) (read_total (drop (c.loop-i.i + 1) o)) next (search rules) inv.0 (omega (arith, inv.1)) in (
       p.1,
       p.2,
       c.hand_part-at.ensures.after
@@ -34,11 +30,9 @@ loop-i-preserved c =
 
 pub returns : goal.returns
 returns c =
-    let o = order_of c.args.self.now.order in
     let bytes = held c.args.self.now.bytes in
     let inv = c.loop-i.invariant in
-    let none = at_drop_all read_total o c.loop-i.i (omega arith) in
+    let none = at_drop_all read_total (order_of c.args.self.now.order) c.loop-i.i (omega arith) in
     let end : c.loop-i.at ≡ length bytes = omega (arith, inv.0, inv.1) in
-    inv.2
-    ∙ ap (λ n. take n bytes ++ drop n c.args.buffer.now) end
-    ∙ ap (λ l. l ++ drop (length bytes) c.args.buffer.now) (take_all (length bytes) bytes (omega arith))
+    let all = take_all (length bytes) bytes (omega arith) in
+    inv.2 ∙ rw end (rw all refl)
