@@ -1,0 +1,60 @@
+// What is done with a book.
+ghost use Rattle.std.specs.Prelude.{◌≡◌, ◌+◌, ◌-◌, ltb, [], ◌∷◌, ◌++◌, length, is_ok, if◌then◌else◌, nat_lt};
+ghost use Rattle.refusals.specs.Numbers.{returned};
+ghost use Rattle.books.specs.Marks.{marked, blank, Grows};
+
+use crate::Book;
+use refusals::Refusal;
+
+impl<'a, T: Copy> Book<'a, T> {
+    // A book with no mark yet; every place of the slice is left.
+    pub fn new(places: &'a mut [T]) -> Self
+        ensures used { result.used ≡ 0 }
+        ensures places { result.places.now ≡ places.old }
+        ensures named { result.places.ghost_name ≡ places.entry.ghost_name }
+    {
+        Book { places, used: 0 }
+    }
+
+    // How many marks it still takes.
+    pub fn left(&self) -> usize
+        ensures { result ≡ length self.now.places.now - self.now.used }
+    {
+        self.places.len() - self.used
+    }
+
+    // How many marks it has.
+    pub fn total(&self) -> usize
+        ensures { result ≡ length (marked self.now.places.now self.now.used) }
+    {
+        self.places.len() - self.left()
+    }
+
+    // Adds a mark after the others; a full book refuses and stays as it is.
+    pub fn mark(&mut self, mark: T) -> Result<(), Refusal>
+        ensures answer { returned result ≡ (if ltb self.old.used (length self.old.places.now) then 0 else 22) }
+        ensures grows { Grows self.old self.new (if is_ok result then mark ∷ [] else []) }
+        ensures test { is_ok result ≡ nat_lt self.old.used (length self.old.places.now) }
+        ensures used { self.new.used ≡ (if is_ok result then self.old.used + 1 else self.old.used) }
+        ensures marks { marked self.new.places.now self.new.used ≡ (if is_ok result then marked self.old.places.now self.old.used ++ (mark ∷ []) else marked self.old.places.now self.old.used) }
+        ensures rest { blank self.new.places.now self.new.used ≡ blank self.old.places.now self.new.used }
+        ensures long { length self.new.places.now ≡ length self.old.places.now }
+        ensures named { self.new.places.ghost_name ≡ self.old.places.ghost_name }
+    {
+        if self.used >= self.places.len() {
+            return Err(Refusal::FullBook);
+        }
+        self.places[self.used] = mark;
+        self.used += 1;
+        Ok(())
+    }
+
+    // Uses the book up and gives the slice back to its lender: how many marks it has.
+    pub fn close(self) -> usize
+        ensures total { result ≡ self.entry.used }
+        ensures lent { self.exit.0.now ≡ self.entry.places.now }
+    {
+        let Book { places: _, used } = self;
+        used
+    }
+}
