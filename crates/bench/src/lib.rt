@@ -2,7 +2,7 @@
 #![tactic(auto)]
 
 ghost use Rattle.std.specs.Prelude.{◌≡◌, [], ◌∷◌, ◌++◌, ◌+◌, ◌-◌, ◌≤◌, length};
-ghost use Rattle.books.specs.Marks.{marked, blank};
+ghost use Rattle.books.specs.Marks.{marked, Grows};
 ghost use Rattle.bus.specs.Symbols.{rank as rank_of};
 ghost use Rattle.bus.specs.Banks.{All};
 ghost use Rattle.masters.specs.Master as m;
@@ -20,7 +20,7 @@ use orders::{Answer, Order};
 use refusals::Refusal;
 use slaves::Slaves;
 
-// Masters and slaves on one bus.
+// Masters and slaves on one bus. No impl Model: it would hide the two fields, which `take_apart` gives back as they are.
 #[derive(Drop)]
 pub struct Bench<M: Masters, S: Slaves> {
     masters: M,
@@ -33,14 +33,6 @@ impl<M: Masters, S: Slaves> Bench<M, S> {
         ensures { All Well (S.Slaves.bank slaves.now) }
     {}
 
-    fn joined(mut masters: M, mut slaves: S) -> Self
-        ensures { model M.Masters S.Slaves result ≡ assembled (M.Masters.bank masters) (S.Slaves.bank slaves) }
-    {
-        masters.free();
-        slaves.free();
-        Bench { masters, slaves }
-    }
-
     // Moves one slot: all hear what it carries.
     fn slot(&mut self) -> Symbol
         ensures symbol { result ≡ carried (model M.Masters S.Slaves self.old) }
@@ -52,101 +44,32 @@ impl<M: Masters, S: Slaves> Bench<M, S> {
         symbol
     }
 
-    fn slot_rank(&mut self) -> u8
-        ensures rank { result ≡ rank_of (carried (model M.Masters S.Slaves self.old)) }
-        ensures after { model M.Masters S.Slaves self.new ≡ moved (model M.Masters S.Slaves self.old) }
-    {
-        self.slot().rank()
-    }
-
-    fn put(&mut self, number: usize, order: Order) -> Result<(), Refusal>
-        ensures answer { result ≡ m.place_answer number (model M.Masters S.Slaves self.old).masters }
-        ensures after { model M.Masters S.Slaves self.new ≡ does (Place number order) (model M.Masters S.Slaves self.old) }
-    {
-        self.masters.place(number, order)
-    }
-
-    fn take_back(&mut self, number: usize) -> Result<(), Refusal>
-        ensures answer { result ≡ m.withdraw_answer number (model M.Masters S.Slaves self.old).masters }
-        ensures after { model M.Masters S.Slaves self.new ≡ does (Withdraw number) (model M.Masters S.Slaves self.old) }
-    {
-        self.masters.withdraw(number)
-    }
-
-    fn set(&mut self, number: usize, place: usize, byte: u8) -> Result<(), Refusal>
-        ensures answer { result ≡ s.told number place (model M.Masters S.Slaves self.old).slaves }
-        ensures after { model M.Masters S.Slaves self.new ≡ does (Tell number place byte) (model M.Masters S.Slaves self.old) }
-    {
-        self.slaves.tell(number, place, byte)
-    }
-
-    fn hand_over(&mut self, number: usize, buffer: &mut [u8]) -> Result<Answer, Refusal>
-        ensures answer { result ≡ m.collect_answer number (length buffer.old) (model M.Masters S.Slaves self.old).masters }
-        ensures bytes { buffer.new ≡ m.collect_into number buffer.old (model M.Masters S.Slaves self.old).masters }
-        ensures after { model M.Masters S.Slaves self.new ≡ does (Collect number (length buffer.old)) (model M.Masters S.Slaves self.old) }
-    {
-        self.masters.collect(number, buffer)
-    }
-
-    // Moves one slot and marks its rank.
-    fn mark_slot(&mut self, book: &mut Book<u8>)
-        requires { book.old.used + 1 ≤ length book.old.places.now }
-        ensures after { model M.Masters S.Slaves self.new ≡ moved (model M.Masters S.Slaves self.old) }
-        ensures marks { marked book.new.places.now book.new.used ≡ marked book.old.places.now book.old.used ++ (rank_of (carried (model M.Masters S.Slaves self.old)) ∷ []) }
-        ensures used { book.new.used ≡ book.old.used + 1 }
-        ensures rest { blank book.new.places.now book.new.used ≡ blank book.old.places.now book.new.used }
-        ensures long { length book.new.places.now ≡ length book.old.places.now }
-        ensures named { book.new.places.ghost_name ≡ book.old.places.ghost_name }
-    {
-        let slot = self.slot_rank();
-        let _ = book.mark(slot);
-    }
-
-    // Moves slots until there are `n`, or nobody waits, and marks them; a book with room for them.
+    // Moves slots until there are `n`, or nobody waits, and marks their ranks; a book with room for them.
     fn run_slots(&mut self, n: usize, book: &mut Book<u8>) -> usize
         requires { book.old.used + n ≤ length book.old.places.now }
         ensures count { result ≡ length (run_slots n (model M.Masters S.Slaves self.old)) }
         ensures after { model M.Masters S.Slaves self.new ≡ ran n (model M.Masters S.Slaves self.old) }
-        ensures marks { marked book.new.places.now book.new.used ≡ marked book.old.places.now book.old.used ++ ranks (run_slots n (model M.Masters S.Slaves self.old)) }
-        ensures used { book.new.used ≡ book.old.used + length (run_slots n (model M.Masters S.Slaves self.old)) }
-        ensures rest { blank book.new.places.now book.new.used ≡ blank book.old.places.now book.new.used }
-        ensures long { length book.new.places.now ≡ length book.old.places.now }
-        ensures named { book.new.places.ghost_name ≡ book.old.places.ghost_name }
+        ensures grows { Grows book.old book.new (ranks (run_slots n (model M.Masters S.Slaves self.old))) }
     {
-        let mut k = 0;
-        while k < n && self.masters.waits() {
-            self.mark_slot(book);
-            k += 1;
+        for k in 0..n {
+            if !self.masters.waits() {
+                return k;
+            }
+            let _ = book.mark(self.slot().rank());
         }
-        k
-    }
-
-    fn run_within(&mut self, n: usize, book: &mut Book<u8>) -> Result<usize, Refusal>
-        ensures answer { result ≡ run_answer n (length book.old.places.now - book.old.used) (model M.Masters S.Slaves self.old) }
-        ensures after { model M.Masters S.Slaves self.new ≡ does (Run n (length book.old.places.now - book.old.used)) (model M.Masters S.Slaves self.old) }
-        ensures marks { marked book.new.places.now book.new.used ≡ marked book.old.places.now book.old.used ++ ranks (moves (Run n (length book.old.places.now - book.old.used)) (model M.Masters S.Slaves self.old)) }
-        ensures used { book.new.used ≡ book.old.used + length (moves (Run n (length book.old.places.now - book.old.used)) (model M.Masters S.Slaves self.old)) }
-        ensures rest { blank book.new.places.now book.new.used ≡ blank book.old.places.now book.new.used }
-        ensures long { length book.new.places.now ≡ length book.old.places.now }
-        ensures named { book.new.places.ghost_name ≡ book.old.places.ghost_name }
-    {
-        if n > 999 {
-            return Err(Refusal::LongRun);
-        }
-        if book.left() < n {
-            return Err(Refusal::FullBook);
-        }
-        Ok(self.run_slots(n, book))
+        n
     }
 
     // Puts masters and slaves on one free bus. The law of contests holds of every list of calls from here.
-    pub fn assemble(masters: M, slaves: S) -> Self
+    pub fn assemble(mut masters: M, mut slaves: S) -> Self
         ensures made { model M.Masters S.Slaves result ≡ assembled (M.Masters.bank masters) (S.Slaves.bank slaves) }
         ensures law { Always (model M.Masters S.Slaves result) }
     {
         law::holds();
         Self::keeps_to_the_turns(&slaves);
-        Bench::joined(masters, slaves)
+        masters.free();
+        slaves.free();
+        Bench { masters, slaves }
     }
 
     // Moves one slot, and returns its rank.
@@ -156,22 +79,24 @@ impl<M: Masters, S: Slaves> Bench<M, S> {
         ensures law { Continues (model M.Masters S.Slaves self.old) Step (result ∷ []) (model M.Masters S.Slaves self.new) }
     {
         law::holds();
-        self.slot_rank()
+        self.slot().rank()
     }
 
     // Moves slots until there are `n`, or the bus is free and nobody waits; marks their ranks, and says how many.
     pub fn run(&mut self, n: usize, book: &mut Book<u8>) -> Result<usize, Refusal>
         ensures answer { result ≡ run_answer n (length book.old.places.now - book.old.used) (model M.Masters S.Slaves self.old) }
         ensures after { model M.Masters S.Slaves self.new ≡ does (Run n (length book.old.places.now - book.old.used)) (model M.Masters S.Slaves self.old) }
-        ensures marks { marked book.new.places.now book.new.used ≡ marked book.old.places.now book.old.used ++ ranks (moves (Run n (length book.old.places.now - book.old.used)) (model M.Masters S.Slaves self.old)) }
-        ensures used { book.new.used ≡ book.old.used + length (moves (Run n (length book.old.places.now - book.old.used)) (model M.Masters S.Slaves self.old)) }
-        ensures rest { blank book.new.places.now book.new.used ≡ blank book.old.places.now book.new.used }
-        ensures long { length book.new.places.now ≡ length book.old.places.now }
-        ensures named { book.new.places.ghost_name ≡ book.old.places.ghost_name }
+        ensures grows { Grows book.old book.new (ranks (moves (Run n (length book.old.places.now - book.old.used)) (model M.Masters S.Slaves self.old))) }
         ensures law { Continues (model M.Masters S.Slaves self.old) (Run n (length book.old.places.now - book.old.used)) (grown (marked book.old.places.now book.old.used) (marked book.new.places.now book.new.used)) (model M.Masters S.Slaves self.new) }
     {
         law::holds();
-        self.run_within(n, book)
+        if n > 999 {
+            return Err(Refusal::LongRun);
+        }
+        if book.left() < n {
+            return Err(Refusal::FullBook);
+        }
+        Ok(self.run_slots(n, book))
     }
 
     // Gives an order to the master with this number, if it is idle.
@@ -181,7 +106,7 @@ impl<M: Masters, S: Slaves> Bench<M, S> {
         ensures law { Continues (model M.Masters S.Slaves self.old) (Place number order) [] (model M.Masters S.Slaves self.new) }
     {
         law::holds();
-        self.put(number, order)
+        self.masters.place(number, order)
     }
 
     // Makes the master with this number idle, if it waits and the bus is free.
@@ -191,7 +116,7 @@ impl<M: Masters, S: Slaves> Bench<M, S> {
         ensures law { Continues (model M.Masters S.Slaves self.old) (Withdraw number) [] (model M.Masters S.Slaves self.new) }
     {
         law::holds();
-        self.take_back(number)
+        self.masters.withdraw(number)
     }
 
     // Sets one byte of the slave with this number, if the bus is free.
@@ -201,7 +126,7 @@ impl<M: Masters, S: Slaves> Bench<M, S> {
         ensures law { Continues (model M.Masters S.Slaves self.old) (Tell number place byte) [] (model M.Masters S.Slaves self.new) }
     {
         law::holds();
-        self.set(number, place, byte)
+        self.slaves.tell(number, place, byte)
     }
 
     // Hands over the answer of the master with this number, once; the bytes read go to the front of the buffer.
@@ -212,7 +137,7 @@ impl<M: Masters, S: Slaves> Bench<M, S> {
         ensures law { Continues (model M.Masters S.Slaves self.old) (Collect number (length buffer.old)) [] (model M.Masters S.Slaves self.new) }
     {
         law::holds();
-        self.hand_over(number, buffer)
+        self.masters.collect(number, buffer)
     }
 
     // Takes the bench apart.
