@@ -1,5 +1,6 @@
 -- Books that gain marks. Assumes nothing.
-use Rattle.std.proofs.Common.{◌≡◌, ℕ, ◌+◌, List, [], ◌++◌, length, drop, sym, refl, ap, ◌∙◌, append_assoc, append-nil, arith, length-append}
+use Rattle.std.proofs.Common.{◌≡◌, ℕ, ◌+◌, Bool, true, false, if◌then◌else◌, subst, List, [], ◌∷◌, ◌++◌, length, drop, sym, refl, ap, ◌∙◌, append_assoc, append-nil, arith, length-append}
+use borrow.Author.Tests.{clash}
 use Rattle.std.proofs.lemmas.List.{drop-drop}
 use Rattle.books.specs.declared.Book.{Book}
 use Rattle.books.specs.Marks.{marked, Grows}
@@ -21,3 +22,8 @@ grows_more a b c ms ns g h = record {
   long = h.long ∙ g.long;
   named = h.named ∙ g.named;
 }
+
+-- a mark that was taken
+pub grows_one : {T : Type 0} (a b : Book T) (m n : T) (ok : Bool) → Grows a b (if ok then m ∷ [] else []) → ok ≡ true → m ≡ n → Grows a b (n ∷ [])
+grows_one a b m n true g e q = subst (λ x. Grows a b (x ∷ [])) q g
+grows_one a b m n false g e q = absurd (clash e)

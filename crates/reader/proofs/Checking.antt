@@ -1,7 +1,7 @@
 -- A record checked slot by slot. Assumes nothing.
-use Rattle.std.proofs.Common.{◌≡◌, ℕ, ◌+◌, true, false, List, [], ◌∷◌, ◌++◌, length, sym, refl, ap, ◌∙◌, subst, append_assoc, arith}
+use Rattle.std.proofs.Common.{◌≡◌, ℕ, true, false, List, [], ◌∷◌, ◌++◌, length, sym, refl, ap, ◌∙◌, subst, append_assoc, arith, length-append, ◌-◌}
 use borrow.Author.Tests.{clash}
-use Rattle.std.proofs.lemmas.List.{map_push, append-nil, length_push}
+use Rattle.std.proofs.lemmas.List.{map_push, append-nil, length-map}
 use Rattle.history.specs.Contest.{Follows, turn_after}
 use Rattle.bus.specs.Symbols.{rank, same_rank}
 use Rattle.bus.specs.Turns.{next, legal, busy, bus}
@@ -10,13 +10,12 @@ use Rattle.bus.specs.declared.Turn.{Turn}
 use Rattle.bus.specs.declared.Turn.TheVariants.{Free}
 use Rattle.reader.specs.Records.{ranks, Recorded, Whole, Unfinished, Offends, Against, Leads}
 
--- so far: what is left, where the turns are, and the place
-pub record Checked (slots left : List ℕ) (t : Turn) (p : ℕ) : Type 0 where
+-- so far: what is left, and where the turns are
+pub record Checked (slots left : List ℕ) (t : Turn) : Type 0 where
   pub before : List Symbol
   pub same : slots ≡ ranks before ++ left
   pub follows : Follows bus Free before
   pub turn : t ≡ turn_after bus Free before
-  pub at : p ≡ length before
 
 pub follows_push : (h : List Symbol) (t : Turn) (x : Symbol) → Follows bus t h → legal (turn_after bus t h) x ≡ true → Follows bus t (h ++ (x ∷ []))
 follows_push [] t x f l = (l, tt)
@@ -26,11 +25,8 @@ pub turn_push : (h : List Symbol) (t : Turn) (x : Symbol) → turn_after bus t (
 turn_push [] t x = refl
 turn_push (y ∷ h) t x = turn_push h (next t y) x
 
-pub checked_start : (slots : List ℕ) → Checked slots slots Free 0
-checked_start slots = record { before = []; same = refl; follows = tt; turn = refl; at = refl }
-
-pub checked_on : (slots left rest : List ℕ) (t u : Turn) (p n : ℕ) → Checked slots left t p → left ≡ n ∷ rest → Leads t n u → Checked slots rest u (p + 1)
-checked_on slots left rest t u p n c e l =
+pub checked_on : (slots left rest : List ℕ) (t u : Turn) (n : ℕ) → Checked slots left t → left ≡ n ∷ rest → Leads t n u → Checked slots rest u
+checked_on slots left rest t u n c e l =
     let x = l.0 in
     let h = c.before in
     record {
@@ -40,28 +36,27 @@ checked_on slots left rest t u p n c e l =
           ∙ sym (append_assoc (ranks h) (rank x ∷ []) rest) ∙ ap (λ (q : List ℕ). q ++ rest) (sym (map_push rank h x));
       follows = follows_push h Free x c.follows (subst (λ (v : Turn). legal v x ≡ true) c.turn l.2);
       turn = l.3 ∙ ap (λ (v : Turn). next v x) c.turn ∙ sym (turn_push h Free x);
-      at = ap (λ (m : ℕ). m + 1) c.at ∙ sym (length_push h x);
     }
 
-pub checked_offends : (slots left rest : List ℕ) (t : Turn) (p n : ℕ) → Checked slots left t p → left ≡ n ∷ rest → Against t n → Offends slots p
-checked_offends slots left rest t p n c e b = record {
+pub checked_offends : (slots left rest : List ℕ) (t : Turn) (n : ℕ) → Checked slots left t → left ≡ n ∷ rest → Against t n → Offends slots (length slots - length left)
+checked_offends slots left rest t n c e b = record {
   before = c.before;
   here = n;
   later = rest;
   same = c.same ∙ ap (λ (q : List ℕ). ranks c.before ++ q) e;
-  at = c.at;
+  at = omega (arith, ap length c.same, length-append (ranks c.before) left, length-map c.before rank);
   follows = c.follows;
   against = λ x r. subst (λ (v : Turn). legal v x ≡ false) c.turn (b x r);
 }
 
-checked_end : (slots left : List ℕ) (t : Turn) (p : ℕ) → (c : Checked slots left t p) → left ≡ [] → Recorded slots c.before
-checked_end slots left t p c e = record {
+checked_end : (slots left : List ℕ) (t : Turn) → (c : Checked slots left t) → left ≡ [] → Recorded slots c.before
+checked_end slots left t c e = record {
   same = c.same ∙ ap (λ (q : List ℕ). ranks c.before ++ q) e ∙ append-nil (ranks c.before);
   follows = c.follows;
 }
 
-pub checked_unfinished : (slots left : List ℕ) (t : Turn) (p : ℕ) → Checked slots left t p → left ≡ [] → busy t ≡ true → Unfinished slots
-checked_unfinished slots left t p c e b = (c.before, checked_end slots left t p c e, sym (ap busy c.turn) ∙ b)
+pub checked_unfinished : (slots left : List ℕ) (t : Turn) → Checked slots left t → left ≡ [] → busy t ≡ true → Unfinished slots
+checked_unfinished slots left t c e b = (c.before, checked_end slots left t c e, sym (ap busy c.turn) ∙ b)
 
 -- a record has one history
 head_is : {A : Type 0} (x y : A) (xs ys : List A) → x ∷ xs ≡ y ∷ ys → x ≡ y

@@ -1,9 +1,7 @@
 -- The first word of what is left. Assumes nothing.
-use Rattle.std.proofs.Common.{◌≡◌, ℕ, ◌+◌, ◌<◌, ◌≤◌, Bool, true, false, List, [], ◌∷◌, ◌++◌, length, get_or, take, drop, sym, refl, ap, ◌∙◌, subst, inl, inr, arith, length-append}
-use borrow.Author.Tests.{clash}
-use Rattle.std.proofs.lemmas.List.{take_at, drop_at, drop-drop, nil_from_length, get_or_past}
-use Rattle.std.proofs.lemmas.Slice.{first_rest}
-use Rattle.std.specs.List.{between}
+use Rattle.std.proofs.Common.{◌≡◌, ℕ, suc, subst₂, ◌+◌, ◌<◌, ◌≤◌, Bool, true, false, cond, eqb, eqb-true, List, [], ◌∷◌, ◌++◌, length, get_or, take, drop, sym, refl, ap, ◌∙◌, subst, inl, inr, arith, length-append}
+use Rattle.std.proofs.lemmas.List.{take_at, drop_at, drop-drop, nil_from_length}
+use Rattle.std.specs.List.{prefix_len}
 use Rattle.reader.specs.Words.{Meaning, start, stop, byte, Bit, Bits, Reads, end, free, begins, ends, nine, Ended, Takes, NoFreeFirst}
 
 abbrev First : Bool → List ℕ → ℕ → Meaning → List Meaning → Bool → List ℕ → ℕ → Type 0
@@ -14,11 +12,11 @@ bit_first : (s xs ys : List ℕ) (x : ℕ) → x ∷ xs ≡ s ++ ys → length s
 bit_first [] xs ys x e l b = absurd (omega arith)
 bit_first (y ∷ s) xs ys x e l b = let q : x ≡ y = cc in subst Bit (sym q) b.0
 
-not_bit_1 : Bit 1 → ⊥
+pub not_bit_1 : Bit 1 → ⊥
 not_bit_1 (inl e) = omega arith
 not_bit_1 (inr e) = omega arith
 
-not_bit_2 : Bit 2 → ⊥
+pub not_bit_2 : Bit 2 → ⊥
 not_bit_2 (inl e) = omega arith
 not_bit_2 (inr e) = omega arith
 
@@ -67,56 +65,30 @@ take_nine slots s p long es two one b none_first ws r =
     let t = (at_nine b slots p some none_first (two some) (one some) ws r).1 in
     (t.0, t.1 ∙ ap (λ (q : List ℕ). byte p q ∷ t.0) (sym es), t.2)
 
--- n free slots are taken off, and these are left
-pub record Skipped (slots left : List ℕ) (n : ℕ) : Type 0 where
-  pub left_is : left ≡ drop n slots
-  pub within : n + length left ≡ length slots
-  pub same : (p : ℕ) (ws : List Meaning) → Reads false slots p ws → Reads false left (p + n) ws
+-- how many free slots come first
+abbrev pub free_first : List ℕ → ℕ
+free_first slots = prefix_len (λ x. eqb x 3) slots
 
-pub skipped_none : (slots : List ℕ) → Skipped slots slots 0
-skipped_none slots = record {
-  left_is = refl;
-  within = omega arith;
-  same = λ p ws r. subst (λ (m : ℕ). Reads false slots m ws) (let q : p ≡ p + 0 = omega arith in q) r;
-}
+drop_one : (x : ℕ) (xs : List ℕ) (n : ℕ) → drop (1 + n) (x ∷ xs) ≡ drop n xs
+drop_one x xs n = ap (λ (m : ℕ). drop m (x ∷ xs)) (let q : 1 + n ≡ suc n = omega arith in q)
 
-pub skipped_more : (slots left rest : List ℕ) (n : ℕ) → Skipped slots left n → left ≡ 3 ∷ rest → Skipped slots rest (n + 1)
-skipped_more slots left rest n s e = record {
-  left_is = sym (ap (drop 1) e) ∙ ap (drop 1) s.left_is ∙ drop-drop 1 n slots;
-  within = omega (arith, s.within, ap length e);
-  same = λ p ws r.
-      subst (λ (m : ℕ). Reads false rest m ws) (let q : p + n + 1 ≡ p + (n + 1) = omega arith in q)
-      (at_free rest (p + n) ws (subst (λ (q : List ℕ). Reads false q (p + n) ws) e (s.same p ws r)));
-}
-
-pub skipped_first : (slots left : List ℕ) (n : ℕ) → Skipped slots left n → 0 < length left → get_or left 0 0 ≡ 3 → Skipped slots (between 1 (length left) left) (n + 1)
-skipped_first slots left n s some e =
-    skipped_more slots left (between 1 (length left) left) n s (first_rest left 0 some ∙ ap (λ (x : ℕ). x ∷ between 1 (length left) left) e)
+pub past_free : (slots : List ℕ) (p : ℕ) (ws : List Meaning) → Reads false slots p ws → Reads false (drop (free_first slots) slots) (p + free_first slots) ws
+past_free [] p ws r = subst (λ (m : ℕ). Reads false [] m ws) (let q : p ≡ p + 0 = omega arith in q) r
+past_free (x ∷ xs) p ws r = go (eqb x 3) refl (past_free xs (p + 1) ws)
+  where
+    go : (b : Bool) → eqb x 3 ≡ b → (Reads false xs (p + 1) ws → Reads false (drop (free_first xs) xs) (p + 1 + free_first xs) ws) → Reads false (drop (cond b (1 + free_first xs) 0) (x ∷ xs)) (p + cond b (1 + free_first xs) 0) ws
+    go true e more =
+        let later = more (at_free xs p ws (subst (λ (y : ℕ). Reads false (y ∷ xs) p ws) (eqb-true x 3 e) r)) in
+        let n = free_first xs in
+        let q : p + 1 + n ≡ p + (1 + n) = omega arith in
+        subst₂ (λ (ys : List ℕ) (m : ℕ). Reads false ys m ws) (sym (drop_one x xs n)) q later
+    go false e more = subst (λ (m : ℕ). Reads false (x ∷ xs) m ws) (let q : p ≡ p + 0 = omega arith in q) r
 
 -- what a count of free slots is worth
 pub record Counted (b : Bool) (slots : List ℕ) (n : ℕ) : Type 0 where
   pub same : (p : ℕ) (ws : List Meaning) → Reads b slots p ws → Reads b (drop n slots) (p + n) ws
   pub all : NoFreeFirst b (drop n slots)
   pub within : n ≤ length slots
-
-pub counted : (b : Bool) (slots left : List ℕ) (n : ℕ) → b ≡ false → Skipped slots left n → (get_or left 0 0 ≡ 3 → ⊥) → Counted b slots n
-counted true slots left n eb s here = absurd (clash (sym eb))
-counted false slots left n eb s here = record {
-  same = λ p ws r. subst (λ (q : List ℕ). Reads false q (p + n) ws) s.left_is (s.same p ws r);
-  all = λ f e. here (ap (λ (q : List ℕ). get_or q 0 0) s.left_is ∙ e);
-  within = omega (arith, s.within);
-}
-
-pub counted_all : (b : Bool) (slots left : List ℕ) (n : ℕ) → b ≡ false → Skipped slots left n → length left ≤ 0 → Counted b slots n
-counted_all b slots left n eb s none = counted b slots left n eb s (λ e. omega (arith, e, get_or_past left 0 0 none))
-
-pub counted_busy : (b : Bool) (slots : List ℕ) → b ≡ true → Counted b slots 0
-counted_busy true slots e = record {
-  same = λ p ws r. subst (λ (m : ℕ). Reads true slots m ws) (let q : p ≡ p + 0 = omega arith in q) r;
-  all = λ f. absurd (clash (sym f));
-  within = omega arith;
-}
-counted_busy false slots e = absurd (clash e)
 
 -- past the free slots, which leave this part
 skip : (b : Bool) (slots left part : List ℕ) (p f : ℕ) (ws : List Meaning) → left ≡ drop p slots → part ≡ drop f left → Counted b left f → Reads b (drop p slots) p ws → NoFreeFirst b part × Reads b part (p + f) ws
@@ -130,8 +102,9 @@ rest_of : (slots left part : List ℕ) (p f n : ℕ) → left ≡ drop p slots �
 rest_of slots left part p f n el ep = ap (drop n) (ep ∙ ap (drop f) el ∙ drop-drop f p slots) ∙ drop-drop n (p + f) slots
 
 pub next_some : (b b' : Bool) (slots left part : List ℕ) (p f n : ℕ) (w : Meaning) → left ≡ drop p slots → part ≡ drop f left → Counted b left f
-    → ((c : Bool) → NoFreeFirst c part → Takes c part (p + f) w b' (drop n part) (p + f + n)) → Takes b (drop p slots) p w b' (drop (p + f + n) slots) (p + f + n)
+    → ((c : Bool) → NoFreeFirst c part → Takes c part (p + f) w b' (drop n part) (p + f + n)) → Takes b (drop p slots) p w b' (drop (p + (f + n)) slots) (p + (f + n))
 next_some b b' slots left part p f n w el ep c takes ws r =
     let k = skip b slots left part p f ws el ep c r in
     let t = takes b k.0 ws k.1 in
-    (t.0, t.1, subst (λ (q : List ℕ). Reads b' q (p + f + n) t.0) (rest_of slots left part p f n el ep) t.2)
+    let q : p + f + n ≡ p + (f + n) = omega arith in
+    (t.0, t.1, subst (λ (m : ℕ). Reads b' (drop m slots) m t.0) q (subst (λ (q : List ℕ). Reads b' q (p + f + n) t.0) (rest_of slots left part p f n el ep) t.2))

@@ -1,5 +1,5 @@
-pub mod Weights
 pub mod Checking
 pub mod Fronts
+pub mod Cursors
 pub mod Records
 pub mod Marking

@@ -13,7 +13,7 @@ use Rattle.bus.specs.declared.Turn.TheVariants.{Free, Address, AddressNinth, Bor
 use Rattle.bus.proofs.Slots.{busy_next, free_turn}
 use Rattle.reader.specs.Words.{Meaning, start, stop, byte, joined, Bit, Bits, Reads, end, free, begins, ends, nine}
 use Rattle.reader.specs.Records.{ranks, Recorded, Whole, used, InOrder, WordsOf}
-use Rattle.reader.proofs.Fronts.{at_start, at_stop, at_free, at_end, at_nine}
+use Rattle.reader.proofs.Fronts.{at_start, at_stop, at_free, at_end, at_nine, not_bit_1, not_bit_2}
 
 -- the slots that are left of a byte under way
 abbrev slots_left : Turn → ℕ
@@ -166,14 +166,6 @@ not_first : (s xs : List ℕ) (n : ℕ) → length s ≡ 9 → Bits s → (Bit n
 not_first [] xs n l b ne e = omega arith
 not_first (y ∷ s) xs n l b ne e = ne (subst Bit e b.0)
 
-not_1 : Bit 1 → ⊥
-not_1 (inl e) = omega arith
-not_1 (inr e) = omega arith
-
-not_2 : Bit 2 → ⊥
-not_2 (inl e) = omega arith
-not_2 (inr e) = omega arith
-
 same_words : (b : Bool) (slots : List ℕ) (p : ℕ) (ws vs : List Meaning) → Reads b slots p ws → Reads b slots p vs → ws ≡ vs
 same_words b slots p ws vs end r = sym (at_end false p vs r)
 same_words b slots p ws vs (free {xs = xs} q) r = same_words false xs (p + 1) ws vs q (at_free xs p vs r)
@@ -185,8 +177,8 @@ same_words b slots p ws vs (ends {xs = xs} {ws = later} q) r =
     ap (λ (l : List Meaning). stop p ∷ l) (same_words false xs (p + 1) later t.0 q t.2) ∙ sym t.1
 same_words b slots p ws vs (nine {xs = xs} {ws = later} s e l bits q) r =
     let some : 0 < length slots = omega (arith, length-append s xs, ap length e) in
-    let two : get_or slots 0 0 ≡ 2 → ⊥ = λ z. not_first s xs 2 l bits not_2 (sym (ap (λ (ys : List ℕ). get_or ys 0 0) e) ∙ z) in
-    let one : get_or slots 0 0 ≡ 1 → ⊥ = λ z. not_first s xs 1 l bits not_1 (sym (ap (λ (ys : List ℕ). get_or ys 0 0) e) ∙ z) in
+    let two : get_or slots 0 0 ≡ 2 → ⊥ = λ z. not_first s xs 2 l bits not_bit_2 (sym (ap (λ (ys : List ℕ). get_or ys 0 0) e) ∙ z) in
+    let one : get_or slots 0 0 ≡ 1 → ⊥ = λ z. not_first s xs 1 l bits not_bit_1 (sym (ap (λ (ys : List ℕ). get_or ys 0 0) e) ∙ z) in
     let t = (at_nine true slots p some (λ z. absurd (clash (sym z))) two one vs r).1 in
     let es : take 9 slots ≡ s = ap (take 9) e ∙ take_at s xs 9 l in
     let ex : drop 9 slots ≡ xs = ap (drop 9) e ∙ drop_at s xs 9 l in
@@ -202,8 +194,8 @@ kept_busy t One h b = rw b refl
 
 not_stop : (x : Symbol) → Bit (rank x) → is_stop x ≡ false
 not_stop Zero b = refl
-not_stop Stop b = absurd (not_1 b)
-not_stop Start b = absurd (not_2 b)
+not_stop Stop b = absurd (not_bit_1 b)
+not_stop Start b = absurd (not_bit_2 b)
 not_stop One b = refl
 
 -- after the bits of a byte

@@ -1,6 +1,7 @@
 -- The words of a record of ranks. Assumes nothing.
 --     Meaning        what a word is: S, P, or nine slots of the record, at its place; places count from 0
 --     meant          the meaning of a word of the code, whose slots are borrowed
+--     long           how many slots a word takes; busy_after: whether a contest is under way after it
 --     listed         what is marked of a word: its kind and place
 --     kind_number    the number of each kind: 0 a start, 1 a stop, 2 a byte
 --     joined         the slots of the words, one word after the other
@@ -31,6 +32,16 @@ abbrev pub slots_of : Meaning → List ℕ
 slots_of (start p) = 2 ∷ []
 slots_of (stop p) = 1 ∷ []
 slots_of (byte p s) = s
+
+abbrev pub long : Meaning → ℕ
+long (start p) = 1
+long (stop p) = 1
+long (byte p s) = 9
+
+abbrev pub busy_after : Meaning → Bool
+busy_after (start p) = true
+busy_after (stop p) = false
+busy_after (byte p s) = true
 
 abbrev pub listed : Meaning → Listed
 listed (start p) = record { kind = kind.Start; place = p }

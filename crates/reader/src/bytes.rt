@@ -8,7 +8,7 @@ use bus::Direction;
 fn bit(rank: u8) -> u8
     ensures { result ≡ bit_of rank }
 {
-    if rank == 3 { 1 } else { 0 }
+    u8::from(rank == 3)
 }
 
 // The value of a byte.
@@ -34,18 +34,11 @@ pub fn acknowledged(slots: &[u8; 9]) -> bool
     *ack == 0
 }
 
-// The address in an address byte.
+// The address in an address byte: all its bits but the last.
 pub fn address(slots: &[u8; 9]) -> u8
     ensures { result ≡ address_of slots.now }
 {
-    let [a6, a5, a4, a3, a2, a1, a0, _direction, _ack] = slots;
-    64 * bit(*a6)
-        + 32 * bit(*a5)
-        + 16 * bit(*a4)
-        + 8 * bit(*a3)
-        + 4 * bit(*a2)
-        + 2 * bit(*a1)
-        + bit(*a0)
+    value(slots) / 2
 }
 
 // The direction in an address byte.

@@ -11,13 +11,8 @@ use refusals::Refusal;
 fn follow(turn: Turn, rank: u8) -> Option<Turn>
     ensures { MatchOption result (Against turn rank) (λ u. Leads turn rank u) }
 {
-    let Some(symbol) = Symbol::of_rank(rank) else {
-        return None;
-    };
-    if !turn.allows(symbol) {
-        return None;
-    }
-    Some(turn.next(symbol))
+    let symbol = Symbol::of_rank(rank)?;
+    turn.allows(symbol).then(|| turn.next(symbol))
 }
 
 // Whether a record follows the turns and ends on a free bus.
@@ -26,14 +21,14 @@ pub fn check(slots: &[u8]) -> Result<(), Refusal>
     ensures exactly { Whole slots.now → is_ok result ≡ true }
 {
     let mut turn = Turn::Free;
-    let mut place = 0;
     let mut left = slots;
     while let [first, rest @ ..] = left {
         let Some(next) = follow(turn, *first) else {
-            return Err(Refusal::AgainstTurns { place });
+            return Err(Refusal::AgainstTurns {
+                place: slots.len() - left.len(),
+            });
         };
         turn = next;
-        place += 1;
         left = rest;
     }
     if turn.is_busy() {

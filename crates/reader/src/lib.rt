@@ -15,7 +15,7 @@ pub use listing::list;
 pub use words::Words;
 
 // What a word is.
-#[derive(Clone, Copy)]
+#[derive(Clone, Copy, Debug, PartialEq, Eq, Hash)]
 pub enum Kind {
     Start,
     Stop,
@@ -23,14 +23,14 @@ pub enum Kind {
 }
 
 // What is marked of a word.
-#[derive(Clone, Copy)]
+#[derive(Clone, Copy, Debug, PartialEq, Eq, Hash)]
 pub struct Listed {
     pub kind: Kind,
     pub place: usize,
 }
 
 // A word, and the place of its first slot: S, P, or the nine slots of a byte in the record itself.
-#[derive(Clone, Copy)]
+#[derive(Clone, Copy, Debug, PartialEq, Eq, Hash)]
 pub enum Word<'a> {
     Start { place: usize },
     Stop { place: usize },

@@ -1,9 +1,10 @@
 // The words of a record, one after the other.
-ghost use Rattle.std.specs.Prelude.{◌≡◌, ℕ, ◌+◌, ◌<◌, ◌≤◌, Bool, true, false, List, length, drop, IfSome, is_ok, MatchOption, MatchResult, OnSome};
+ghost use Rattle.std.specs.Prelude.{◌≡◌, ℕ, ◌+◌, ◌≤◌, Bool, true, false, List, length, drop, IfSome, is_ok, MatchOption, MatchResult};
+ghost use Rattle.std.specs.Iterator.{at_most};
 ghost use Rattle.refusals.specs.Numbers.{number};
-ghost use Rattle.reader.specs.Words.{Meaning, meant, Reads, Ended, Takes, NoFreeFirst};
+ghost use Rattle.reader.specs.Words.{Meaning, meant, long, busy_after, Reads, Ended, Takes, NoFreeFirst};
 ghost use Rattle.reader.specs.Records.{Whole, WordsOf};
-ghost use Rattle.reader.specs.Cursors.{still, Left, Exhausted, Moves};
+ghost use Rattle.reader.specs.Cursors.{still, Left, Gives};
 ghost use Rattle.reader.specs.Refusals.{Wrong};
 
 use crate::{Word, check};
@@ -17,14 +18,6 @@ pub struct Words<'a> {
     busy: bool,
 }
 
-// The first word of some slots, how many slots it takes, and whether a contest is under way after it.
-#[derive(Clone, Copy)]
-struct Front<'a> {
-    word: Word<'a>,
-    long: usize,
-    busy: bool,
-}
-
 // How many free slots come first: 1s, where no contest is under way.
 fn free_slots(slots: &[u8], busy: bool) -> usize
     ensures same { (p : ℕ) (ws : List Meaning) → Reads busy slots.now p ws → Reads busy (drop result slots.now) (p + result) ws }
@@ -34,49 +27,42 @@ fn free_slots(slots: &[u8], busy: bool) -> usize
     if busy {
         return 0;
     }
-    let mut left = slots;
-    let mut n = 0;
-    while let [first, rest @ ..] = left {
-        if *first != 3 {
-            break;
-        }
-        left = rest;
-        n += 1;
-    }
-    n
+    slots.iter().take_while(|slot| **slot == 3).count()
 }
 
 // The word that comes first where no free slot does: S, P, or the nine slots of a byte.
-fn first_word<'a>(slots: &'a [u8], place: usize) -> Option<Front<'a>>
+fn first_word<'a>(slots: &'a [u8], place: usize) -> Option<Word<'a>>
     ensures takes { MatchOption result
         ((b : Bool) → NoFreeFirst b slots.now → Ended b slots.now place)
-        (λ f. (b : Bool) → NoFreeFirst b slots.now → Takes b slots.now place (meant f.word) f.busy (drop f.long slots.now) (place + f.long)) }
-    ensures within { IfSome result (λ f. (0 < f.long) × (f.long ≤ length slots.now)) }
+        (λ w. (b : Bool) → NoFreeFirst b slots.now → Takes b slots.now place (meant w) (busy_after (meant w)) (drop (long (meant w)) slots.now) (place + long (meant w))) }
+    ensures within { IfSome result (λ w. long (meant w) ≤ length slots.now) }
 {
-    let [first, ..] = slots else {
-        return None;
-    };
-    match *first {
-        2 => Some(Front {
-            word: Word::Start { place },
-            long: 1,
-            busy: true,
-        }),
-        1 => Some(Front {
-            word: Word::Stop { place },
-            long: 1,
-            busy: false,
-        }),
+    match slots {
+        [2, ..] => Some(Word::Start { place }),
+        [1, ..] => Some(Word::Stop { place }),
         _ => {
-            let Some(slots) = slots.first_chunk::<9>() else {
-                return None;
-            };
-            Some(Front {
-                word: Word::Byte { place, slots },
-                long: 9,
-                busy: true,
-            })
+            let slots = slots.first_chunk::<9>()?;
+            Some(Word::Byte { place, slots })
         }
+    }
+}
+
+impl Word<'_> {
+    // How many slots it takes.
+    fn long(&self) -> usize
+        ensures { result ≡ long (meant self.now) }
+    {
+        match self {
+            Word::Byte { .. } => 9,
+            _ => 1,
+        }
+    }
+
+    // Whether a contest is under way after it.
+    fn is_busy_after(&self) -> bool
+        ensures { result ≡ busy_after (meant self.now) }
+    {
+        !matches!(self, Word::Stop { .. })
     }
 }
 
@@ -94,33 +80,27 @@ impl<'a> Words<'a> {
         })
     }
 
-    // The next word; None where none is left.
-    pub fn next_word(&mut self) -> Option<Word<'a>>
-        ensures takes { MatchOption result (Exhausted self.old × (self.new ≡ self.old)) (λ w. Moves self.old (meant w) self.new) }
-        ensures shorter { OnSome result (length (still self.new) < length (still self.old)) }
-    {
-        let Some(left) = self.slots.get(self.place..) else {
-            return None;
-        };
-        let free = free_slots(left, self.busy);
-        let place = self.place + free;
-        let Some(front) = first_word(&left[free..], place) else {
-            return None;
-        };
-        self.place = place + front.long;
-        self.busy = front.busy;
-        Some(front.word)
-    }
-
     // How many words are left.
     pub fn count(self) -> usize
         ensures { (ws : List Meaning) → Left self.entry ws → result ≡ length ws }
     {
-        let mut words = self;
-        let mut total = 0;
-        while let Some(_word) = words.next_word() {
-            total += 1;
-        }
-        total
+        Iterator::count(self)
+    }
+}
+
+impl<'a> Iterator for Words<'a> {
+    type Item = Word<'a>;
+
+    ghost next_gives = { Gives };
+
+    ghost remaining = { λ w. at_most (length (still w)) };
+
+    fn next(&mut self) -> Option<Word<'a>> {
+        let left = self.slots.get(self.place..)?;
+        let free = free_slots(left, self.busy);
+        let word = first_word(&left[free..], self.place + free)?;
+        self.place += free + word.long();
+        self.busy = word.is_busy_after();
+        Some(word)
     }
 }
