@@ -11,10 +11,6 @@ const NOTHING: Listed = Listed {
     place: 99,
 };
 
-fn row(listed: Listed) -> (u8, usize) {
-    (listed.kind.number(), listed.place)
-}
-
 fn missing() -> Result<(), Fail> {
     Err(Fail::new("another word was expected"))
 }
@@ -25,27 +21,25 @@ fn words_of_a_read(rt: HostRuntime) -> Result<(), Fail> {
         return missing();
     };
     assert_eq!(rt; words.count(), 4);
-    let Some(Word::Start { place }) = words.next_word() else {
-        return missing();
-    };
-    assert_eq!(rt; place, 0);
-    let Some(Word::Byte { place, slots }) = words.next_word() else {
+    assert_eq!(rt; words.next(), Some(Word::Start { place: 0 }));
+    let Some(Word::Byte { place, slots }) = words.next() else {
         return missing();
     };
     assert_eq!(rt; (place, address(slots)), (1, 72));
-    assert!(rt; matches!(direction(slots), Direction::Read));
+    assert_eq!(rt; direction(slots), Direction::Read);
     assert!(rt; acknowledged(slots));
-    let Some(Word::Byte { place, slots }) = words.next_word() else {
+    let Some(Word::Byte { place, slots }) = words.next() else {
         return missing();
     };
     assert_eq!(rt; (place, value(slots)), (10, 25));
     assert!(rt; !acknowledged(slots));
-    let Some(Word::Stop { place }) = words.next_word() else {
-        return missing();
-    };
-    assert_eq!(rt; place, 19);
-    assert!(rt; words.next_word().is_none());
+    assert_eq!(rt; words.next(), Some(Word::Stop { place: 19 }));
+    assert_eq!(rt; words.next(), None);
     Ok(())
+}
+
+fn listed(kind: Kind, place: usize) -> Listed {
+    Listed { kind, place }
 }
 
 #[test]
@@ -54,28 +48,26 @@ fn a_book_of_four_words(rt: HostRuntime) {
     let mut book = Book::new(&mut places);
     let done = list(&READ, &mut book).is_ok();
     let total = book.close();
+    let four = [
+        listed(Kind::Start, 0),
+        listed(Kind::Byte, 1),
+        listed(Kind::Byte, 10),
+        listed(Kind::Stop, 19),
+        NOTHING,
+    ];
     assert!(rt; done);
     assert_eq!(rt; total, 4);
-    assert_eq!(rt; row(places[0]), (0, 0));
-    assert_eq!(rt; row(places[1]), (2, 1));
-    assert_eq!(rt; row(places[2]), (2, 10));
-    assert_eq!(rt; row(places[3]), (1, 19));
-    assert_eq!(rt; row(places[4]), (0, 99));
+    assert_eq!(rt; places, four);
+    assert_eq!(rt; four.map(|listed| listed.kind.number()), [0, 2, 2, 1, 0]);
 }
 
 #[test]
-fn a_book_of_three_is_too_small(rt: HostRuntime) -> Result<(), Fail> {
+fn a_book_of_three_is_too_small(rt: HostRuntime) {
     let mut places = [NOTHING; 3];
     let mut book = Book::new(&mut places);
     let done = list(&READ, &mut book);
     let total = book.close();
     assert_eq!(rt; total, 0);
-    assert_eq!(rt; row(places[0]), (0, 99));
-    match done {
-        Ok(()) => Err(Fail::new("a full book took the words")),
-        Err(refusal) => {
-            assert_eq!(rt; refusal.number(), 22);
-            Ok(())
-        },
-    }
+    assert_eq!(rt; places[0], NOTHING);
+    assert_eq!(rt; done.map_err(|refusal| refusal.number()), Err(22));
 }

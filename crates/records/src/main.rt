@@ -34,16 +34,16 @@ fn show_byte(rt: &impl Print, place: usize, slots: &[u8; 9], first: bool) -> any
 }
 
 // Each word with its place.
-fn show_words(rt: &impl Print, mut words: Words) -> anyhow::Result<()> {
+fn show_words(rt: &impl Print, words: Words) -> anyhow::Result<()> {
     let mut first = false;
     print!(rt; "0")?;
-    while let Some(word) = words.next_word() {
+    for word in words {
         match word {
             Word::Start { place } => print!(rt; " {place}:S")?,
             Word::Stop { place } => print!(rt; " {place}:P")?,
             Word::Byte { place, slots } => show_byte(rt, place, slots, first)?,
         }
-        first = matches!(word, Word::Start { place: _ });
+        first = matches!(word, Word::Start { .. });
     }
     println!(rt; "")?;
     Ok(())
@@ -79,16 +79,15 @@ fn read_into_book(rt: &impl Print, slots: &[u8]) -> anyhow::Result<()> {
 
 // A long record: 0, how many words it has, and what its bytes add up to.
 fn read_long(rt: &impl Print, slots: &[u8]) -> anyhow::Result<()> {
-    let mut words = match Words::of(slots) {
+    let words = match Words::of(slots) {
         Ok(words) => words,
         Err(refusal) => return refuse(rt, refusal),
     };
-    let mut count = 0u64;
+    let count = words.count();
     let mut sum = 0u64;
-    while let Some(word) = words.next_word() {
-        count = count.saturating_add(1);
-        if let Word::Byte { place: _, slots } = word {
-            sum = sum.saturating_add(value(slots) as u64);
+    for word in words {
+        if let Word::Byte { slots, .. } = word {
+            sum = sum.saturating_add(u64::from(value(slots)));
         }
     }
     println!(rt;

@@ -3,15 +3,13 @@
 
 mod text;
 
-use anyhow::anyhow;
 use bench::Bench;
 use bus::{Symbol, Turn};
 use chips::Gauge;
 use line::Line;
 use orders::{Order, RawSegment};
-use reader::Words;
+use reader::{Word, Words};
 use refusals::Refusal;
-use std::alloc::Global;
 use text::{print_answer, print_slot, print_word};
 
 const ADDRESS: u16 = 72;
@@ -25,16 +23,8 @@ const REGISTERS: [u8; 4] = [25, 130, 7, 0];
 // The longest contest that there is.
 const LONGEST: usize = 329;
 
-// A refusal as an error that names its number.
-fn accepted<T>(heap: Global, res: Result<T, Refusal>) -> anyhow::Result<T> {
-    match res {
-        Ok(value) => Ok(value),
-        Err(refusal) => Err(anyhow!(format!(in heap; "refused with {}", refusal.number())?)),
-    }
-}
-
 // The pointer written, a repeated start, and the registers read.
-fn order(heap: Global) -> anyhow::Result<Order> {
+fn order() -> Result<Order, Refusal> {
     let mut order = Order::new();
     let segments = [
         RawSegment {
@@ -48,7 +38,7 @@ fn order(heap: Global) -> anyhow::Result<Order> {
             count: READ,
         },
     ];
-    accepted(heap, order.fill(&segments, &[POINTER]))?;
+    order.fill(&segments, &[POINTER])?;
     Ok(order)
 }
 
@@ -73,12 +63,12 @@ fn follow(
     Ok(())
 }
 
-// What a reader makes of the slots.
+// What a reader makes of the slots; the byte after a start is an address byte.
 fn read(rt: &(impl Print + AllocGlobal), record: &[u8]) -> anyhow::Result<()> {
-    let mut words = accepted(rt.alloc(), Words::of(record))?;
     let mut address = false;
-    while let Some(word) = words.next_word() {
-        address = print_word(rt, word, address)?;
+    for word in Words::of(record)? {
+        print_word(rt, word, address)?;
+        address = matches!(word, Word::Start { .. });
     }
     Ok(())
 }
@@ -89,12 +79,11 @@ fn run(rt: &(impl Print + AllocGlobal)) -> anyhow::Result<()> {
     println!(rt; "  segment 0: write 1 byte to address {ADDRESS}: {POINTER}")?;
     println!(rt; "  segment 1: read {READ} bytes from address {ADDRESS}")?;
     println!(rt; "")?;
-    let heap = rt.alloc();
-    let gauge = accepted(heap, Gauge::new(ADDRESS, REGISTERS))?;
+    let gauge = Gauge::new(ADDRESS, REGISTERS)?;
     let mut bench = Bench::assemble(Line::new(), gauge);
-    accepted(heap, bench.place(0, order(heap)?))?;
+    bench.place(0, order()?)?;
     println!(rt; "slot symbol rank early late whose   what the slot is")?;
-    let mut record = Vec::new(heap);
+    let mut record = Vec::new(rt.alloc());
     follow(rt, &mut bench, &mut record)?;
     println!(rt; "")?;
     println!(rt;
@@ -103,7 +92,7 @@ fn run(rt: &(impl Print + AllocGlobal)) -> anyhow::Result<()> {
     )?;
     read(rt, record.as_slice())?;
     let mut buffer = [0; 32];
-    let answer = accepted(heap, bench.collect(0, &mut buffer))?;
+    let answer = bench.collect(0, &mut buffer)?;
     println!(rt; "")?;
     print_answer(rt, answer, &buffer)?;
     Ok(())

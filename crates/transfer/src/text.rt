@@ -1,60 +1,42 @@
 // What the program prints.
-use bus::{Direction, Level, Symbol, Turn};
+use bus::{Symbol, Turn};
 use orders::Answer;
 use reader::Word;
-use std::alloc::{AllocError, Global};
-use std::io;
-
-fn level(level: Level) -> &'static str {
-    match level {
-        Level::Low => "low",
-        Level::High => "high",
-    }
-}
-
-fn letter(symbol: Symbol) -> &'static str {
-    match symbol {
-        Symbol::Zero => "0",
-        Symbol::Stop => "P",
-        Symbol::Start => "S",
-        Symbol::One => "1",
-    }
-}
+use std::{fmt, io};
 
 // What the next slot is, where the turns stand there.
-fn slot(heap: Global, turn: Turn) -> Result<String, AllocError> {
-    match turn {
-        Turn::Free => String::from_str(heap, "free bus"),
-        Turn::Address(0) => String::from_str(heap, "address byte, direction"),
-        Turn::Address(n) => format!(in heap; "address byte, bit {n}"),
-        Turn::AddressNinth(_) => String::from_str(heap, "address byte, ninth"),
-        Turn::Border => String::from_str(heap, "border, or write byte, bit 7"),
-        Turn::Write(n) => format!(in heap; "write byte, bit {n}"),
-        Turn::WriteNinth => String::from_str(heap, "write byte, ninth"),
-        Turn::Read(n) => format!(in heap; "read byte, bit {n}"),
-        Turn::ReadNinth => String::from_str(heap, "read byte, ninth"),
-        Turn::ClosingBorder => String::from_str(heap, "closing border"),
+#[derive(Drop)]
+struct Slot(Turn);
+
+impl fmt::Display for Slot {
+    fn fmt<W: fmt::Write>(&self, f: &mut fmt::Formatter<W>) -> fmt::Result {
+        match self.0 {
+            Turn::Free => write!(f, "free bus"),
+            Turn::Address(0) => write!(f, "address byte, direction"),
+            Turn::Address(n) => write!(f, "address byte, bit {n}"),
+            Turn::AddressNinth(_) => write!(f, "address byte, ninth"),
+            Turn::Border => write!(f, "border, or write byte, bit 7"),
+            Turn::Write(n) => write!(f, "write byte, bit {n}"),
+            Turn::WriteNinth => write!(f, "write byte, ninth"),
+            Turn::Read(n) => write!(f, "read byte, bit {n}"),
+            Turn::ReadNinth => write!(f, "read byte, ninth"),
+            Turn::ClosingBorder => write!(f, "closing border"),
+        }
     }
 }
 
-pub fn print_slot(
-    rt: &(impl Print + AllocGlobal),
-    number: usize,
-    symbol: Symbol,
-    turn: Turn,
-) -> io::Result<()> {
+pub fn print_slot(rt: &impl Print, number: usize, symbol: Symbol, turn: Turn) -> io::Result<()> {
     let whose = if turn.is_masters() {
         "masters"
     } else {
         "slaves"
     };
-    let is = slot(rt.alloc(), turn)?;
     println!(rt;
-        "{number:>4} {:<6} {:<4} {:<5} {:<4} {whose:<7} {is}",
-        letter(symbol),
+        "{number:>4} {symbol:<6} {:<4} {:<5} {:<4} {whose:<7} {}",
         symbol.rank(),
-        level(symbol.early()),
-        level(symbol.late())
+        symbol.early(),
+        symbol.late(),
+        Slot(turn)
     )
 }
 
@@ -81,18 +63,15 @@ fn draw(rt: &(impl Print + AllocGlobal), ranks: &[u8]) -> io::Result<()> {
     println!(rt; "        SDA {data}")
 }
 
-// An address byte comes after a start; whether the next byte is one is returned.
-pub fn print_word(rt: &(impl Print + AllocGlobal), word: Word, address: bool) -> io::Result<bool> {
+pub fn print_word(rt: &(impl Print + AllocGlobal), word: Word, address: bool) -> io::Result<()> {
     match word {
         Word::Start { place } => {
             println!(rt; "  {place:>3} start")?;
-            draw(rt, &[2])?;
-            Ok(true)
+            draw(rt, &[2])
         }
         Word::Stop { place } => {
             println!(rt; "  {place:>3} stop")?;
-            draw(rt, &[1])?;
-            Ok(false)
+            draw(rt, &[1])
         }
         Word::Byte { place, slots } => {
             let heard = if reader::acknowledged(slots) {
@@ -101,19 +80,15 @@ pub fn print_word(rt: &(impl Print + AllocGlobal), word: Word, address: bool) ->
                 "not acknowledged"
             };
             if address {
-                let direction = match reader::direction(slots) {
-                    Direction::Write => "write",
-                    Direction::Read => "read",
-                };
                 println!(rt;
-                    "  {place:>3} address {} {direction}, {heard}",
-                    reader::address(slots)
+                    "  {place:>3} address {} {}, {heard}",
+                    reader::address(slots),
+                    reader::direction(slots)
                 )?;
             } else {
                 println!(rt; "  {place:>3} byte {}, {heard}", reader::value(slots))?;
             }
-            draw(rt, slots)?;
-            Ok(false)
+            draw(rt, slots)
         }
     }
 }
