@@ -1,5 +1,7 @@
 -- The registers: what an access returns, and the block after it. Assumes nothing.
 --     IIC0 ..         the offsets
+--     offset_of       the offset of a register
+--     Decodes         what an offset is read as
 --     reset_block     the block after reset: every register 0000H, the bus free
 --     word_of         the bits of a word written into IICC0
 --     control_value   what IICC0 reads as: LREL0 and WREL0 as 0, STT0 and SPT0 as 1 until tried
@@ -9,11 +11,14 @@
 --     read_value      the value that a register reads as
 --     write_number    what a write returns, down the table of refusals
 --     written         the block after a write: a refusal alters nothing
-use Rattle.std.specs.Prelude.{◌≡◌, ℕ, ◌+◌, ◌*◌, ◌/◌, ◌%◌, ◌^◌, ◌≤◌, Bool, false, cond, not, ◌&&◌, ◌||◌, Ok, Err, Result, ◌==◌, nat_lt}
+use Rattle.std.specs.Prelude.{◌≡◌, ℕ, ◌+◌, ◌*◌, ◌/◌, ◌%◌, ◌^◌, ◌≤◌, Bool, false, cond, not, ◌&&◌, ◌||◌, Ok, Err, Result, MatchResult, ◌==◌, nat_lt}
 use Rattle.bus.specs.declared.Turn.TheVariants.{Free}
 use Rattle.bus.specs.Turns.{busy}
 use Rattle.refusals.specs.declared.Refusal.{Refusal}
 use Rattle.block.specs.declared.Block.{Block}
+use Rattle.refusals.specs.declared.Refusal.TheVariants.{NoSuchRegister}
+use Rattle.block.specs.declared.Register.{Register}
+use Rattle.block.specs.declared.Register.TheVariants.{Iic0, Iicc0, Sva0, Iiccl0, Iicse0, Iicf0}
 use Rattle.block.specs.declared.Status.{Status}
 use Rattle.block.specs.declared.Task.{Task}
 use Rattle.block.specs.declared.Task.TheVariants as task
@@ -39,6 +44,14 @@ IICSE0 = 28
 
 abbrev pub IICF0 : ℕ
 IICF0 = 40
+
+abbrev pub offset_of : Register → ℕ
+offset_of Iic0 = IIC0
+offset_of Iicc0 = IICC0
+offset_of Sva0 = SVA0
+offset_of Iiccl0 = IICCL0
+offset_of Iicse0 = IICSE0
+offset_of Iicf0 = IICF0
 
 abbrev pub reset_block : Block
 reset_block = record {
@@ -85,6 +98,10 @@ byte_moves b = in_byte b.turn || has_byte b.task
 -- the registers that may be written; IICSE0 is read only
 abbrev pub is_writable : ℕ → Bool
 is_writable o = o == IIC0 || (o == IICC0 || (o == SVA0 || (o == IICCL0 || o == IICF0)))
+
+-- the register at an offset, or the refusal of an offset of none
+abbrev pub Decodes : ℕ → Result Register Refusal → Type 0
+Decodes o r = MatchResult r (λ k. offset_of k ≡ o) (λ e. (e ≡ NoSuchRegister) × ((is_writable o || o == IICSE0) ≡ false))
 
 abbrev pub read_number : Block → ℕ → ℕ
 read_number b o = cond (not (is_writable o || o == IICSE0)) 15 (cond (o == IIC0 && byte_moves b) 17 0)

@@ -3,8 +3,7 @@ ghost use Rattle.std.specs.Prelude.{◌≡◌};
 ghost use Rattle.block.specs.Flags.{own_start, loss, shifted as shifted_of, is_extension, flag as flag_of, flags_after, no_flags, status_after};
 
 use crate::slots::{
-    is_after_read, is_after_write, is_eighth_of_address, is_first_of_address, is_first_of_data,
-    is_ninth, same,
+    AFTER_READ, AFTER_WRITE, EIGHTH_OF_ADDRESS, FIRST_OF_ADDRESS, is_first_of_data, is_ninth,
 };
 use crate::{Block, Status};
 use bus::Symbol;
@@ -30,42 +29,25 @@ fn is_extension(address: u8) -> bool
     address < 0x10 || address > 0xEF
 }
 
-impl Status {
-    pub(crate) fn none() -> Status
-        ensures { result ≡ no_flags }
-    {
-        Status {
-            msts0: false,
-            ald0: false,
-            exc0: false,
-            coi0: false,
-            trc0: false,
-            ackd0: false,
-            std0: false,
-            spd0: false,
-        }
-    }
-}
-
 impl Block {
     // In a masters' slot anything but its own offer is a loss, in a slaves' slot an S or a P.
     pub(crate) fn loses(&self, x: Symbol) -> bool
         ensures { result ≡ loss self.now x }
     {
-        self.status.msts0 && !same(self.offer(), x) && (self.turn.is_masters() || !x.is_bit())
+        self.status.msts0 && self.offer() != x && (self.turn.is_masters() || !x.is_bit())
     }
 
     pub(crate) fn starts_by(&self, x: Symbol) -> bool
         ensures { result ≡ own_start self.now x }
     {
-        same(x, Symbol::Start) && same(self.offer(), Symbol::Start)
+        x == Symbol::Start && self.offer() == Symbol::Start
     }
 
     fn msts0_after(&self, x: Symbol) -> bool
         ensures { result ≡ (flags_after self.now x).msts0 }
     {
         let set = self.starts_by(x);
-        let clear = same(x, Symbol::Stop) || self.loses(x);
+        let clear = x == Symbol::Stop || self.loses(x);
         flag(set, clear, self.status.msts0)
     }
 
@@ -81,9 +63,9 @@ impl Block {
         ensures { result ≡ (flags_after self.now x).exc0 }
     {
         let set = x.is_bit()
-            && is_eighth_of_address(self.turn)
+            && self.turn == EIGHTH_OF_ADDRESS
             && is_extension(shifted(self.shift, x));
-        let clear = same(x, Symbol::Start) || same(x, Symbol::Stop);
+        let clear = x == Symbol::Start || x == Symbol::Stop;
         flag(set, clear, self.status.exc0)
     }
 
@@ -91,9 +73,9 @@ impl Block {
         ensures { result ≡ (flags_after self.now x).coi0 }
     {
         let set = x.is_bit()
-            && is_eighth_of_address(self.turn)
+            && self.turn == EIGHTH_OF_ADDRESS
             && shifted(self.shift, x) / 2 == self.sva0 / 2;
-        let clear = same(x, Symbol::Start) || same(x, Symbol::Stop);
+        let clear = x == Symbol::Start || x == Symbol::Stop;
         flag(set, clear, self.status.coi0)
     }
 
@@ -101,33 +83,33 @@ impl Block {
         ensures { result ≡ (flags_after self.now x).trc0 }
     {
         let own_bit = x.is_bit() && self.status.msts0;
-        let set = self.starts_by(x) || own_bit && is_after_write(self.turn);
-        let clear = own_bit && is_after_read(self.turn) || same(x, Symbol::Stop) || self.loses(x);
+        let set = self.starts_by(x) || own_bit && self.turn == AFTER_WRITE;
+        let clear = own_bit && self.turn == AFTER_READ || x == Symbol::Stop || self.loses(x);
         flag(set, clear, self.status.trc0)
     }
 
     fn ackd0_after(&self, x: Symbol) -> bool
         ensures { result ≡ (flags_after self.now x).ackd0 }
     {
-        let set = same(x, Symbol::Zero) && is_ninth(self.turn);
-        let first = x.is_bit() && (is_first_of_address(self.turn) || is_first_of_data(self.turn));
-        let clear = first || same(x, Symbol::Stop);
+        let set = x == Symbol::Zero && is_ninth(self.turn);
+        let first = x.is_bit() && (self.turn == FIRST_OF_ADDRESS || is_first_of_data(self.turn));
+        let clear = first || x == Symbol::Stop;
         flag(set, clear, self.status.ackd0)
     }
 
     fn std0_after(&self, x: Symbol) -> bool
         ensures { result ≡ (flags_after self.now x).std0 }
     {
-        let set = same(x, Symbol::Start);
-        let clear = x.is_bit() && is_first_of_data(self.turn) || same(x, Symbol::Stop);
+        let set = x == Symbol::Start;
+        let clear = x.is_bit() && is_first_of_data(self.turn) || x == Symbol::Stop;
         flag(set, clear, self.status.std0)
     }
 
     fn spd0_after(&self, x: Symbol) -> bool
         ensures { result ≡ (flags_after self.now x).spd0 }
     {
-        let set = same(x, Symbol::Stop);
-        let clear = x.is_bit() && is_first_of_address(self.turn);
+        let set = x == Symbol::Stop;
+        let clear = x.is_bit() && self.turn == FIRST_OF_ADDRESS;
         flag(set, clear, self.status.spd0)
     }
 
@@ -153,7 +135,7 @@ impl Block {
         if self.control.iice0 {
             self.flags_after(x)
         } else {
-            Status::none()
+            Status::default()
         }
     }
 }

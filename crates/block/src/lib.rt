@@ -22,8 +22,18 @@ pub const IICSE0: u32 = 0x1C;
 
 pub const IICF0: u32 = 0x28;
 
+#[derive(Clone, Copy, Debug, PartialEq, Eq, Hash)]
+pub enum Register {
+    Iic0,
+    Iicc0,
+    Sva0,
+    Iiccl0,
+    Iicse0,
+    Iicf0,
+}
+
 // The bits of IICC0 that are stored. STT0 and SPT0 are read off the task.
-#[derive(Clone, Copy)]
+#[derive(Clone, Copy, Default, Debug, PartialEq, Eq, Hash)]
 pub struct Control {
     pub iice0: bool,
     pub spie0: bool,
@@ -32,7 +42,7 @@ pub struct Control {
 }
 
 // The flags of IICSE0, bits 15 to 8.
-#[derive(Clone, Copy)]
+#[derive(Clone, Copy, Default, Debug, PartialEq, Eq, Hash)]
 pub struct Status {
     pub msts0: bool,
     pub ald0: bool,
@@ -45,7 +55,7 @@ pub struct Status {
 }
 
 // What the block is about.
-#[derive(Clone, Copy)]
+#[derive(Clone, Copy, Debug, PartialEq, Eq, Hash)]
 pub enum Task {
     // nothing asked for
     Rest,
@@ -59,7 +69,7 @@ pub enum Task {
     Stop,
 }
 
-#[derive(Clone, Copy)]
+#[derive(Clone, Copy, Debug, PartialEq, Eq, Hash)]
 pub struct Block {
     turn: Turn,
     // the bits of the byte that moves, so far

@@ -1,17 +1,42 @@
 // The registers: what is read, what a write does.
-ghost use Rattle.std.specs.Prelude.{◌≡◌, ◌≤◌, if◌then◌else◌};
+ghost use Rattle.std.specs.Prelude.{◌≡◌, ◌<◌, ◌≤◌, if◌then◌else◌, MatchResult};
 ghost use Rattle.refusals.specs.Numbers.{returned};
 ghost use Rattle.block.specs.Flags.{status_written};
-ghost use Rattle.block.specs.Access.{reset_block, word_of, packed as packed_of, control_value, status_value, byte_moves, read_number, reads, refuses_word, two_at_once, task_written, word_written, write_number, written as written_of};
+ghost use Rattle.block.specs.Access.{reset_block, Decodes, word_of, packed as packed_of, control_value, status_value, byte_moves, read_number, reads, refuses_word, two_at_once, task_written, word_written, write_number, written as written_of};
 
 use crate::flags::flag;
 use crate::slots::is_in_byte;
-use crate::{Block, Control, IIC0, IICC0, IICCL0, IICF0, IICSE0, SVA0, Status, Task};
+use crate::{Block, Control, IIC0, IICC0, IICCL0, IICF0, IICSE0, Register, SVA0, Status, Task};
 use bus::Turn;
 use refusals::Refusal;
 
+impl TryFrom<u32> for Register {
+    type Error = Refusal;
+
+    ghost try_from_gives = { Decodes };
+
+    fn try_from(offset: u32) -> Result<Self, Refusal> {
+        match offset {
+            IIC0 => Ok(Register::Iic0),
+            IICC0 => Ok(Register::Iicc0),
+            SVA0 => Ok(Register::Sva0),
+            IICCL0 => Ok(Register::Iiccl0),
+            IICSE0 => Ok(Register::Iicse0),
+            IICF0 => Ok(Register::Iicf0),
+            _ => Err(Refusal::NoSuchRegister),
+        }
+    }
+}
+
+// What a register takes: eight bits.
+fn byte_of(value: u32) -> Result<u8, Refusal>
+    ensures { MatchResult result (λ byte. byte ≡ value) (λ e. (e ≡ Refusal.BadValue) × (255 < value)) }
+{
+    u8::try_from(value).map_err(|_| Refusal::BadValue)
+}
+
 // A word written into IICC0, bit by bit.
-#[derive(Clone, Copy)]
+#[derive(Clone, Copy, Debug, PartialEq, Eq, Hash)]
 pub struct Word {
     pub iice0: bool,
     pub lrel0: bool,
@@ -23,10 +48,10 @@ pub struct Word {
     pub spt0: bool,
 }
 
-impl Word {
-    fn of(value: u8) -> Word
-        ensures { result ≡ word_of value }
-    {
+impl From<u8> for Word {
+    ghost from_gives = { λ value word. word ≡ word_of value };
+
+    fn from(value: u8) -> Word {
         Word {
             iice0: value / 128 % 2 == 1,
             lrel0: value / 64 % 2 == 1,
@@ -38,7 +63,9 @@ impl Word {
             spt0: value % 2 == 1,
         }
     }
+}
 
+impl Word {
     // Two of LREL0, WREL0, STT0 and SPT0 at a time.
     fn is_two_at_once(self) -> bool
         ensures { result ≡ two_at_once self }
@@ -114,13 +141,8 @@ impl Block {
             turn: Turn::Free,
             shift: 0,
             task: Task::Rest,
-            control: Control {
-                iice0: false,
-                spie0: false,
-                wtim0: false,
-                acke0: false,
-            },
-            status: Status::none(),
+            control: Control::default(),
+            status: Status::default(),
             iic0: 0,
             sva0: 0,
             iiccl0: 0,
@@ -139,8 +161,8 @@ impl Block {
             c.spie0,
             c.wtim0,
             c.acke0,
-            self.task.starts(),
-            self.task.stops(),
+            self.task == Task::Start,
+            self.task == Task::Stop,
         )
     }
 
@@ -164,19 +186,14 @@ impl Block {
         ensures answer { returned result ≡ read_number self.now offset }
         ensures value { reads self.now offset result }
     {
-        match offset {
-            IIC0 => {
-                if self.byte_moves() {
-                    return Err(Refusal::NotNow);
-                }
-                Ok(self.iic0 as u16)
-            }
-            IICC0 => Ok(self.control_value()),
-            SVA0 => Ok(self.sva0 as u16),
-            IICCL0 => Ok(self.iiccl0 as u16),
-            IICSE0 => Ok(self.status_value()),
-            IICF0 => Ok(self.iicf0 as u16),
-            _ => Err(Refusal::NoSuchRegister),
+        match Register::try_from(offset)? {
+            Register::Iic0 if self.byte_moves() => Err(Refusal::NotNow),
+            Register::Iic0 => Ok(self.iic0 as u16),
+            Register::Iicc0 => Ok(self.control_value()),
+            Register::Sva0 => Ok(self.sva0 as u16),
+            Register::Iiccl0 => Ok(self.iiccl0 as u16),
+            Register::Iicse0 => Ok(self.status_value()),
+            Register::Iicf0 => Ok(self.iicf0 as u16),
         }
     }
 
@@ -184,7 +201,7 @@ impl Block {
     fn refuses(&self, word: Word) -> bool
         ensures { result ≡ refuses_word self.now word }
     {
-        let ninth = self.task.waits_ninth();
+        let ninth = self.task == Task::NinthWait;
         (word.wrel0 || word.stt0 || word.spt0) && !word.iice0
             || (word.wrel0 || word.spt0) && !ninth
             || word.stt0 && self.turn.is_busy() && !ninth
@@ -208,23 +225,16 @@ impl Block {
         ensures answer { returned result ≡ write_number self.old offset value }
         ensures after { self.new ≡ written_of self.old offset value }
     {
-        match offset {
-            IIC0 | IICC0 | SVA0 | IICCL0 | IICF0 => {}
-            _ => return Err(Refusal::NoSuchRegister),
-        }
-        if value > 0xFF {
-            return Err(Refusal::BadValue);
-        }
-        let byte = value as u8;
-        match offset {
-            IIC0 => {
+        match Register::try_from(offset)? {
+            Register::Iic0 => {
+                let byte = byte_of(value)?;
                 if !self.control.iice0 || !self.task.waits() {
                     return Err(Refusal::NotNow);
                 }
                 self.task = Task::Send(byte);
             }
-            IICC0 => {
-                let word = Word::of(byte);
+            Register::Iicc0 => {
+                let word = Word::from(byte_of(value)?);
                 if word.iice0 && !word.wtim0 {
                     return Err(Refusal::BadValue);
                 }
@@ -236,9 +246,10 @@ impl Block {
                 }
                 self.set_control(word);
             }
-            SVA0 => self.sva0 = byte,
-            IICCL0 => self.iiccl0 = byte,
-            _ => self.iicf0 = byte,
+            Register::Sva0 => self.sva0 = byte_of(value)?,
+            Register::Iiccl0 => self.iiccl0 = byte_of(value)?,
+            Register::Iicse0 => return Err(Refusal::NoSuchRegister),
+            Register::Iicf0 => self.iicf0 = byte_of(value)?,
         }
         Ok(())
     }

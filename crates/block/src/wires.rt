@@ -4,7 +4,7 @@ ghost use Rattle.block.specs.Tasks.{offers, contest_offer};
 ghost use Rattle.block.specs.Heard.{task_after, shift_after, heard as heard_of};
 
 use crate::flags::shifted;
-use crate::slots::{is_ninth, place, same};
+use crate::slots::{is_ninth, place};
 use crate::{Block, Task};
 use bus::Symbol;
 
@@ -63,10 +63,10 @@ impl Block {
                 Task::Rest
             };
         }
-        match self.task {
-            Task::Send(byte) => Task::Send(byte),
-            Task::Receive => Task::Receive,
-            _ => Task::Rest,
+        if self.task.has_byte() {
+            self.task
+        } else {
+            Task::Rest
         }
     }
 
@@ -84,7 +84,7 @@ impl Block {
     pub fn hear(&mut self, x: Symbol)
         ensures { self.new ≡ heard_of self.old x }
     {
-        if same(x, Symbol::One) && self.task.waits() {
+        if x == Symbol::One && self.task.waits() {
             return;
         }
         let status = self.status_after(x);
