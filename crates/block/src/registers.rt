@@ -70,9 +70,7 @@ impl Word {
     fn is_two_at_once(self) -> bool
         ensures { result ≡ two_at_once self }
     {
-        self.lrel0 && (self.wrel0 || self.stt0 || self.spt0)
-            || self.wrel0 && (self.stt0 || self.spt0)
-            || self.stt0 && self.spt0
+        self.lrel0 as u8 + self.wrel0 as u8 + self.stt0 as u8 + self.spt0 as u8 > 1
     }
 }
 
