@@ -1,4 +1,4 @@
-// The flags of IICSE0 after a slot, one by one.
+// The flags of IICSE0 after a slot, one by one: each has a condition of its own that sets it, and one that clears it.
 ghost use Rattle.std.specs.Prelude.{◌≡◌};
 ghost use Rattle.block.specs.Flags.{own_start, loss, shifted as shifted_of, is_extension, flag as flag_of, flags_after, no_flags, status_after};
 

@@ -81,7 +81,7 @@ fn weight(bit: bool, weight: u16) -> u16
     if bit { weight } else { 0 }
 }
 
-// Eight bits as a number, the highest first.
+// Eight bits as a number, the highest first. A fold over an array would want a bound on each sum and a second definition.
 fn packed(a: bool, b: bool, c: bool, d: bool, e: bool, f: bool, g: bool, h: bool) -> u16
     ensures is { result ≡ packed_of a b c d e f g h }
     ensures most { result ≤ 255 }
