@@ -7,4 +7,4 @@ use Rattle.driving.specs.States.{known_of}
 use Rattle.driving_laws.specs.Meaning.{standing_of}
 
 abbrev pub master_of : Driver → Master
-master_of d = record { turn = d.block.turn; standing = standing_of (order_of d.order) (known_of d.state) d.block }
+master_of d = record { turn = d.drive.block.turn; standing = standing_of (order_of d.drive.order) (known_of d.drive.state) d.drive.block }

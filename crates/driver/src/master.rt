@@ -6,20 +6,16 @@ ghost use Rattle.driving.specs.States.{known_of};
 ghost use Rattle.driving_laws.specs.Tied.{tied as tied_of, turned as turned_of, real as real_of, unacked as unacked_of};
 ghost use Rattle.driving_laws.specs.Meaning.{standing_of, read_most};
 
-use block::Block;
-use driving::State;
-use orders::Order;
+use driving::Drive;
 
 mod calls;
 
 #[derive(Clone, Copy)]
 pub struct Driver {
-    block: Block,
-    order: Order,
-    state: State,
-    ghost tied: { block ≡ tied_of (order_of order) state.standing block.turn block },
-    ghost turned: { turned_of (order_of order) state.standing block.shift block.turn ≡ true },
-    ghost unacked: { unacked_of state.standing block.turn block.status.ackd0 ≡ true },
-    ghost real: { real_of (order_of order) state.standing ≡ true },
-    ghost room: { read_most (standing_of (order_of order) (known_of state) block) ≤ read_total (order_of order) },
+    drive: Drive,
+    ghost tied: { drive.block ≡ tied_of (order_of drive.order) drive.state.standing drive.block.turn drive.block },
+    ghost turned: { turned_of (order_of drive.order) drive.state.standing drive.block.shift drive.block.turn ≡ true },
+    ghost unacked: { unacked_of drive.state.standing drive.block.turn drive.block.status.ackd0 ≡ true },
+    ghost real: { real_of (order_of drive.order) drive.state.standing ≡ true },
+    ghost room: { read_most (standing_of (order_of drive.order) (known_of drive.state) drive.block) ≤ read_total (order_of drive.order) },
 }

@@ -8,8 +8,11 @@ use Rattle.orders.specs.declared.Outcome.TheVariants.{Done, NoAddress, NoByte}
 use Rattle.orders.specs.Orders.{Segment, Order, address_of, reads, bytes_of, count}
 use Rattle.progress.specs.Positions.{here, heading}
 use Rattle.block.specs.declared.Block.{Block}
+use Rattle.block.specs.declared.Status.{Status}
 use Rattle.block.specs.Slots.{same}
 use Rattle.block.specs.Access.{IICC0, reset_block, control_value, written, refuses_byte, byte_written, byte_moves}
+use Rattle.driving.specs.declared.access.Flag.{Flag}
+use Rattle.driving.specs.declared.access.Flag.TheVariants.{Msts0, Ald0, Ackd0}
 use Rattle.driving.specs.declared.Phase.{Phase}
 use Rattle.driving.specs.declared.Phase.TheVariants.{Opening, Address, Write, Read, Stopping}
 use Rattle.driving.specs.declared.Standing.{Standing}
@@ -19,6 +22,12 @@ use Rattle.driving.specs.States.{Known}
 -- the address byte: seven bits, then the direction
 abbrev pub address_byte_of : Segment → ℕ
 address_byte_of s = 2 * address_of s + value (heading s)
+
+-- a flag of IICSE0
+abbrev pub shown : Flag → Status → Bool
+shown Msts0 s = s.msts0
+shown Ald0 s = s.ald0
+shown Ackd0 s = s.ackd0
 
 -- the block at assembly: reset, then 88H in IICC0
 abbrev pub assembled : Block

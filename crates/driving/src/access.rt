@@ -1,54 +1,69 @@
 // The block's registers, as the register master works them.
-ghost use Rattle.std.specs.Prelude.{◌≡◌};
+ghost use Rattle.std.specs.Prelude.{◌≡◌, ◌+◌};
 ghost use Rattle.block.specs.Tasks.{starts};
-ghost use Rattle.block_laws.specs.Laws.{Shows};
-ghost use Rattle.driving.specs.Driving.{assembled as assembled_block, moved_byte, begun, ended, released as released_of, renewed, received, sent};
+ghost use Rattle.block.specs.Access.{IICC0 as control_register, written};
+ghost use Rattle.driving.specs.Driving.{shown, assembled as assembled_block, moved_byte, begun, ended, released as released_of, renewed, received, sent};
 
 use block::{Block, IIC0, IICC0, IICSE0};
 use block_laws::after_accesses;
 
 // IICC0 with IICE0 and WTIM0 set.
-const ON: u32 = 0x88;
+const ON: u8 = 0x88;
 
 // Further bits of IICC0.
-const LREL0: u32 = 0x40;
+const LREL0: u8 = 0x40;
 
-const WREL0: u32 = 0x20;
+const WREL0: u8 = 0x20;
 
-const ACKE0: u32 = 0x04;
+const ACKE0: u8 = 0x04;
 
-const STT0: u32 = 0x02;
+const STT0: u8 = 0x02;
 
-const SPT0: u32 = 0x01;
+const SPT0: u8 = 0x01;
+
+// The flags of IICSE0 that are asked for.
+#[derive(Clone, Copy, Debug, PartialEq, Eq, Hash)]
+pub(crate) enum Flag {
+    Msts0,
+    Ald0,
+    Ackd0,
+}
+
+// IICC0 with IICE0, WTIM0 and these bits set. A refused write alters nothing.
+fn control(block: &mut Block, bits: u8)
+    ensures { block.new ≡ written block.old control_register (136 + bits) }
+{
+    let _ = block.write(IICC0, ON as u32 + bits as u32);
+}
 
 // A block at assembly.
 pub fn assembled() -> Block
     ensures { result ≡ assembled_block }
 {
     let mut block = Block::new();
-    let _ = block.write(IICC0, ON);
+    control(&mut block, 0);
     block
 }
 
-// An S next. On a busy bus with no wait this is refused, and alters nothing.
+// An S next. On a busy bus with no wait this is refused.
 pub fn begin(block: &mut Block)
     ensures { block.new ≡ begun block.old }
 {
-    let _ = block.write(IICC0, ON + STT0);
+    control(block, STT0);
 }
 
 // A P next.
 pub(crate) fn end(block: &mut Block)
     ensures { block.new ≡ ended block.old }
 {
-    let _ = block.write(IICC0, ON + SPT0);
+    control(block, SPT0);
 }
 
 // Drops the S that was asked for.
 pub fn release(block: &mut Block)
     ensures { block.new ≡ released_of block.old }
 {
-    let _ = block.write(IICC0, ON + LREL0);
+    control(block, LREL0);
 }
 
 // IICE0 0, then 1, and every other bit as it was.
@@ -66,13 +81,9 @@ pub(crate) fn renew(block: &mut Block)
 pub(crate) fn receive(block: &mut Block, more: bool)
     ensures { block.new ≡ received more block.old }
 {
-    if more {
-        let _ = block.write(IICC0, ON + ACKE0);
-        let _ = block.write(IICC0, ON + ACKE0 + WREL0);
-    } else {
-        let _ = block.write(IICC0, ON);
-        let _ = block.write(IICC0, ON + WREL0);
-    }
+    let bits = if more { ACKE0 } else { 0 };
+    control(block, bits);
+    control(block, bits + WREL0);
 }
 
 // The byte goes out next.
@@ -82,51 +93,29 @@ pub(crate) fn send(block: &mut Block, byte: u8)
     let _ = block.write(IIC0, byte as u32);
 }
 
-// IICSE0, whose bits 15 to 8 are the flags.
-fn status(block: &Block) -> u16
-    ensures { Shows block.now.status result }
+// Whether IICSE0 shows the flag.
+pub(crate) fn shows(block: &Block, flag: Flag) -> bool
+    ensures { result ≡ shown flag block.now.status }
 {
     after_accesses();
-    match block.read(IICSE0) {
-        Ok(status) => status,
-        Err(_) => 0,
+    let status = block.read(IICSE0).unwrap_or(0);
+    match flag {
+        Flag::Msts0 => status / 0x8000 % 2 == 1,
+        Flag::Ald0 => status / 0x4000 % 2 == 1,
+        Flag::Ackd0 => status / 0x0400 % 2 == 1,
     }
 }
 
-// Whether MSTS0 is set; then ALD0, ACKD0, and STT0.
-pub(crate) fn is_master(block: &Block) -> bool
-    ensures { result ≡ block.now.status.msts0 }
-{
-    status(block) / 0x8000 % 2 == 1
-}
-
-pub(crate) fn has_lost(block: &Block) -> bool
-    ensures { result ≡ block.now.status.ald0 }
-{
-    status(block) / 0x4000 % 2 == 1
-}
-
-pub(crate) fn is_acknowledged(block: &Block) -> bool
-    ensures { result ≡ block.now.status.ackd0 }
-{
-    status(block) / 0x0400 % 2 == 1
-}
-
+// Whether STT0 is set.
 pub fn is_starting(block: &Block) -> bool
     ensures { result ≡ starts block.now.task }
 {
-    match block.read(IICC0) {
-        Ok(control) => control / 2 % 2 == 1,
-        Err(_) => false,
-    }
+    block.read(IICC0).is_ok_and(|control| control / 2 % 2 == 1)
 }
 
 // The byte that was moved, unless one moves.
 pub(crate) fn moved_byte(block: &Block) -> Option<u8>
     ensures { result ≡ moved_byte block.now }
 {
-    match block.read(IIC0) {
-        Ok(byte) => Some(byte as u8),
-        Err(_) => None,
-    }
+    block.read(IIC0).ok().map(|byte| byte as u8)
 }

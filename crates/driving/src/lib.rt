@@ -5,11 +5,11 @@ mod access;
 mod steps;
 
 pub use access::{assembled, begin, is_starting, release};
-use orders::{Bytes, Outcome};
-pub use steps::{clear_loss, respond, retry};
+use block::Block;
+use orders::{Bytes, Order, Outcome};
 
 // What a contender is about: an S before a segment, its address byte, a byte written, a byte read, its P.
-#[derive(Clone, Copy)]
+#[derive(Clone, Copy, Debug, PartialEq, Eq, Hash)]
 pub enum Phase {
     Opening,
     Address,
@@ -19,7 +19,7 @@ pub enum Phase {
 }
 
 // Segments and bytes count from 0; the bits of a byte are counted by the block.
-#[derive(Clone, Copy)]
+#[derive(Clone, Copy, Debug, PartialEq, Eq, Hash)]
 pub enum Standing {
     Idle,
     Waiting,
@@ -34,4 +34,12 @@ pub struct State {
     pub losses: u16,
     pub outcome: Outcome,
     pub bytes: Bytes,
+}
+
+// A block, the order that it is worked for, and how far it has come in it.
+#[derive(Clone, Copy)]
+pub struct Drive {
+    pub block: Block,
+    pub order: Order,
+    pub state: State,
 }

@@ -2,16 +2,13 @@
 ghost use Rattle.std.specs.Prelude.{◌≡◌};
 ghost use Rattle.orders.specs.Fills.{order_of};
 ghost use Rattle.progress.specs.Positions.{here};
-ghost use Rattle.driving.specs.States.{known_of};
-ghost use Rattle.driving.specs.Driving.{address_byte_of, block_past, standing_past, block_on, standing_on, ninth_block, ninth_known, going_block, going_known, out_known, entered, failed, lost as lost_of, heard_block, heard_known, loss_cleared, retried};
+ghost use Rattle.driving.specs.States.{known_of, Led};
+ghost use Rattle.driving.specs.Driving.{address_byte_of, sent, block_past, standing_past, ended, block_on, standing_on, going_block, going_known, with_standing, out_known, entered, failed, lost as lost_of, heard_block, heard_known, loss_cleared, retried};
 
-use crate::access::{
-    begin, end, has_lost, is_acknowledged, is_master, moved_byte, receive, renew, send,
-};
-use crate::{Phase, Standing, State};
-use block::Block;
+use crate::access::{Flag, begin, end, moved_byte, receive, renew, send, shows};
+use crate::{Drive, Phase, Standing, State};
 use bus::{Direction, Symbol};
-use orders::{Bytes, Order, Outcome};
+use orders::{Bytes, Outcome};
 
 impl Phase {
     // A contender in this phase.
@@ -22,108 +19,6 @@ impl Phase {
             phase: self,
             segment,
             byte,
-        }
-    }
-}
-
-// The address byte of a segment.
-fn address_byte(order: &Order, segment: u8) -> u8
-    ensures { result ≡ address_byte_of (here (order_of order.now) segment) }
-{
-    let wanted = order.segment(segment);
-    2 * wanted.address + wanted.direction.bit().value()
-}
-
-// An S before the next segment, or P.
-fn go_past(block: &mut Block, order: &Order, segment: u8) -> Standing
-    ensures block { block.new ≡ block_past (order_of order.now) segment block.old }
-    ensures standing { result ≡ standing_past (order_of order.now) segment }
-{
-    let next = segment as u16 + 1;
-    if next < order.len() as u16 {
-        begin(block);
-        Phase::Opening.at(next as u8, 0)
-    } else {
-        end(block);
-        Phase::Stopping.at(segment, 0)
-    }
-}
-
-// Answers the wait: with that byte of the segment, or with what comes after the segment.
-fn go_on(block: &mut Block, order: &Order, segment: u8, byte: u16) -> Standing
-    ensures block { block.new ≡ block_on (order_of order.now) segment byte block.old }
-    ensures standing { result ≡ standing_on (order_of order.now) segment byte }
-{
-    let wanted = order.segment(segment);
-    let count = wanted.count as u16;
-    if byte >= count {
-        return go_past(block, order, segment);
-    }
-    let next = byte as u8;
-    match wanted.direction {
-        Direction::Read => {
-            receive(block, byte + 1 < count);
-            Phase::Read.at(segment, next)
-        }
-        Direction::Write => {
-            send(block, order.byte(segment, next));
-            Phase::Write.at(segment, next)
-        }
-    }
-}
-
-// A ninth slot was heard, and IIC0 has the byte that was moved.
-fn ninth(
-    block: &mut Block,
-    order: &Order,
-    state: &mut State,
-    phase: Phase,
-    segment: u8,
-    byte: u8,
-    moved: u8,
-)
-    requires { moved ≡ block.old.iic0 }
-    ensures block { block.new ≡ ninth_block (order_of order.now) phase segment byte block.old }
-    ensures known { known_of state.new ≡ ninth_known (order_of order.now) phase segment byte block.old (known_of state.old) }
-{
-    match phase {
-        Phase::Address if is_acknowledged(block) => {
-            state.standing = go_on(block, order, segment, 0);
-        }
-        Phase::Address => {
-            end(block);
-            state.fail(segment, Outcome::NoAddress { segment });
-        }
-        Phase::Write if is_acknowledged(block) => {
-            state.standing = go_on(block, order, segment, byte as u16 + 1);
-        }
-        Phase::Write => {
-            end(block);
-            state.fail(segment, Outcome::NoByte { segment, byte });
-        }
-        Phase::Read => {
-            state.bytes.push(moved);
-            state.standing = go_on(block, order, segment, byte as u16 + 1);
-        }
-        Phase::Opening | Phase::Stopping => {}
-    }
-}
-
-// MSTS0 = 1 still. IIC0 is refused while a byte moves, and so tells its end.
-fn go(block: &mut Block, order: &Order, state: &mut State, phase: Phase, segment: u8, byte: u8)
-    ensures block { block.new ≡ going_block (order_of order.now) phase segment byte block.old }
-    ensures known { known_of state.new ≡ going_known (order_of order.now) phase segment byte block.old (known_of state.old) }
-{
-    match phase {
-        Phase::Opening => {
-            send(block, address_byte(order, segment));
-            state.standing = Phase::Address.at(segment, 0);
-        }
-        Phase::Stopping => {}
-        Phase::Address | Phase::Write | Phase::Read => {
-            if let Some(moved) = moved_byte(block) {
-                ninth(block, order, state, phase, segment, byte, moved);
-            }
         }
     }
 }
@@ -155,54 +50,133 @@ impl State {
         self.outcome = Outcome::Done;
         self.bytes = Bytes::new();
     }
+}
+
+impl Drive {
+    // The address byte of a segment goes out next.
+    fn send_address(&mut self, segment: u8)
+        ensures { Led self.old self.new (sent (address_byte_of (here (order_of self.old.order) segment)) self.old.block) (known_of self.old.state) }
+    {
+        let wanted = self.order.segment(segment);
+        send(
+            &mut self.block,
+            2 * wanted.address + wanted.direction.bit().value(),
+        );
+    }
+
+    // An S before the next segment, or P.
+    fn go_past(&mut self, segment: u8)
+        ensures { Led self.old self.new (block_past (order_of self.old.order) segment self.old.block)
+            (with_standing (known_of self.old.state) (standing_past (order_of self.old.order) segment)) }
+    {
+        let next = segment as u16 + 1;
+        if next < self.order.len() as u16 {
+            begin(&mut self.block);
+            self.state.standing = Phase::Opening.at(next as u8, 0);
+        } else {
+            end(&mut self.block);
+            self.state.standing = Phase::Stopping.at(segment, 0);
+        }
+    }
+
+    // Answers the wait: with that byte of the segment, or with what comes after the segment.
+    fn go_on(&mut self, segment: u8, byte: u16)
+        ensures { Led self.old self.new (block_on (order_of self.old.order) segment byte self.old.block)
+            (with_standing (known_of self.old.state) (standing_on (order_of self.old.order) segment byte)) }
+    {
+        let wanted = self.order.segment(segment);
+        let count = wanted.count as u16;
+        if byte >= count {
+            return self.go_past(segment);
+        }
+        let next = byte as u8;
+        match wanted.direction {
+            Direction::Read => {
+                receive(&mut self.block, byte + 1 < count);
+                self.state.standing = Phase::Read.at(segment, next);
+            }
+            Direction::Write => {
+                send(&mut self.block, self.order.byte(segment, next));
+                self.state.standing = Phase::Write.at(segment, next);
+            }
+        }
+    }
 
     // Nobody acknowledged: only its P is left.
-    fn fail(&mut self, segment: u8, outcome: Outcome)
-        ensures { known_of self.new ≡ failed (known_of self.old) outcome segment }
+    fn give_up(&mut self, segment: u8, outcome: Outcome)
+        ensures { Led self.old self.new (ended self.old.block) (failed (known_of self.old.state) outcome segment) }
     {
-        self.standing = Phase::Stopping.at(segment, 0);
-        self.outcome = outcome;
+        end(&mut self.block);
+        self.state.standing = Phase::Stopping.at(segment, 0);
+        self.state.outcome = outcome;
     }
-}
 
-// The block has heard a slot; `tried` says whether STT0 was set before it.
-pub fn respond(block: &mut Block, order: &Order, state: &mut State, tried: bool, carried: Symbol)
-    ensures block { block.new ≡ heard_block (order_of order.now) tried carried state.old.standing block.old }
-    ensures known { known_of state.new ≡ heard_known (order_of order.now) tried carried state.old.standing block.old (known_of state.old) }
-{
-    match state.standing {
-        Standing::Waiting if !tried => {}
-        Standing::Waiting if is_master(block) => {
-            send(block, address_byte(order, 0));
-            state.enter();
+    // MSTS0 = 1 still. IIC0 is refused while a byte moves, and so tells its end.
+    fn go(&mut self, phase: Phase, segment: u8, byte: u8)
+        ensures { Led self.old self.new (going_block (order_of self.old.order) phase segment byte self.old.block)
+            (going_known (order_of self.old.order) phase segment byte self.old.block (known_of self.old.state)) }
+    {
+        if phase == Phase::Opening {
+            self.send_address(segment);
+            self.state.standing = Phase::Address.at(segment, 0);
+            return;
         }
-        Standing::Waiting => state.lose(),
-        Standing::Contending {
-            phase,
-            segment,
-            byte,
-        } if is_master(block) => {
-            go(block, order, state, phase, segment, byte);
+        let Some(moved) = moved_byte(&self.block) else {
+            return;
+        };
+        let acknowledged = shows(&self.block, Flag::Ackd0);
+        match phase {
+            Phase::Address if acknowledged => self.go_on(segment, 0),
+            Phase::Address => self.give_up(segment, Outcome::NoAddress { segment }),
+            Phase::Write if acknowledged => self.go_on(segment, byte as u16 + 1),
+            Phase::Write => self.give_up(segment, Outcome::NoByte { segment, byte }),
+            Phase::Read => {
+                self.state.bytes.push(moved);
+                self.go_on(segment, byte as u16 + 1);
+            }
+            Phase::Opening | Phase::Stopping => {}
         }
-        Standing::Contending { phase, .. } => state.leave(phase, carried),
-        Standing::Idle | Standing::Answered => {}
     }
-}
 
-// At a P that finds ALD0 = 1: IICE0 0, then 1.
-pub fn clear_loss(block: &mut Block, carried: Symbol)
-    ensures { block.new ≡ loss_cleared carried block.old }
-{
-    if matches!(carried, Symbol::Stop) && has_lost(block) {
-        renew(block);
+    // The block has heard a slot; `tried` says whether STT0 was set before it.
+    pub fn respond(&mut self, tried: bool, carried: Symbol)
+        ensures { Led self.old self.new
+            (heard_block (order_of self.old.order) tried carried self.old.state.standing self.old.block)
+            (heard_known (order_of self.old.order) tried carried self.old.state.standing self.old.block (known_of self.old.state)) }
+    {
+        let is_master = shows(&self.block, Flag::Msts0);
+        match self.state.standing {
+            Standing::Waiting if !tried => {}
+            Standing::Waiting if is_master => {
+                self.send_address(0);
+                self.state.enter();
+            }
+            Standing::Waiting => self.state.lose(),
+            Standing::Contending {
+                phase,
+                segment,
+                byte,
+            } if is_master => self.go(phase, segment, byte),
+            Standing::Contending { phase, .. } => self.state.leave(phase, carried),
+            Standing::Idle | Standing::Answered => {}
+        }
     }
-}
 
-// Who waits tries STT0, which a busy bus refuses.
-pub fn retry(block: &mut Block, standing: Standing)
-    ensures { block.new ≡ retried standing block.old }
-{
-    if matches!(standing, Standing::Waiting) {
-        begin(block);
+    // At a P that finds ALD0 = 1: IICE0 0, then 1.
+    pub fn clear_loss(&mut self, carried: Symbol)
+        ensures { Led self.old self.new (loss_cleared carried self.old.block) (known_of self.old.state) }
+    {
+        if carried == Symbol::Stop && shows(&self.block, Flag::Ald0) {
+            renew(&mut self.block);
+        }
+    }
+
+    // Who waits tries STT0, which a busy bus refuses.
+    pub fn retry(&mut self)
+        ensures { Led self.old self.new (retried self.old.state.standing self.old.block) (known_of self.old.state) }
+    {
+        if self.state.standing == Standing::Waiting {
+            begin(&mut self.block);
+        }
     }
 }

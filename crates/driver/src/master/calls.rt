@@ -12,9 +12,7 @@ ghost use Rattle.driver.specs.Driver.{master_of};
 use super::Driver;
 use block::IICSE0;
 use bus::Symbol;
-use driving::{
-    Standing, State, assembled, begin, clear_loss, is_starting, release, respond, retry,
-};
+use driving::{Drive, Standing, State, assembled, begin, is_starting, release};
 use orders::{Answer, Bytes, Order, Outcome};
 use progress::Finished;
 use refusals::Refusal;
@@ -23,24 +21,26 @@ impl Driver {
     // An idle master on a free bus: its block reset, with 88H in IICC0.
     pub fn new() -> Driver
         ensures master { master_of result ≡ record { turn = Free; standing = idle_standing } }
-        ensures block { result.block ≡ assembled_block }
+        ensures block { result.drive.block ≡ assembled_block }
     {
         Driver {
-            block: assembled(),
-            order: Order::new(),
-            state: State {
-                standing: Standing::Idle,
-                losses: 0,
-                outcome: Outcome::Done,
-                bytes: Bytes::new(),
+            drive: Drive {
+                block: assembled(),
+                order: Order::new(),
+                state: State {
+                    standing: Standing::Idle,
+                    losses: 0,
+                    outcome: Outcome::Done,
+                    bytes: Bytes::new(),
+                },
             },
         }
     }
 
     fn block_offer(&self) -> Symbol
-        ensures { result ≡ offers self.now.block }
+        ensures { result ≡ offers self.now.drive.block }
     {
-        self.block.offer()
+        self.drive.block.offer()
     }
 
     pub fn offer(&self) -> Symbol
@@ -52,25 +52,19 @@ impl Driver {
     // A slot carries the symbol. A P leaves ALD0 = 0.
     pub fn hear(&mut self, carried: Symbol)
         ensures master { master_of self.new ≡ master.heard carried (master_of self.old) }
-        ensures renewed { carried ≡ Symbol.Stop → self.new.block.status.ald0 ≡ false }
+        ensures renewed { carried ≡ Symbol.Stop → self.new.drive.block.status.ald0 ≡ false }
     {
-        let tried = is_starting(&self.block);
-        self.block.hear(carried);
-        respond(
-            &mut self.block,
-            &self.order,
-            &mut self.state,
-            tried,
-            carried,
-        );
-        clear_loss(&mut self.block, carried);
-        retry(&mut self.block, self.state.standing);
+        let tried = is_starting(&self.drive.block);
+        self.drive.block.hear(carried);
+        self.drive.respond(tried, carried);
+        self.drive.clear_loss(carried);
+        self.drive.retry();
     }
 
     // As at assembly.
     pub fn free(&mut self)
         ensures master { master_of self.new ≡ master.freed (master_of self.old) }
-        ensures block { self.new.block ≡ assembled_block }
+        ensures block { self.new.drive.block ≡ assembled_block }
     {
         *self = Driver::new();
     }
@@ -80,7 +74,7 @@ impl Driver {
         ensures { result ≡ is_waiting (master_of self.now).standing }
     {
         matches!(
-            self.state.standing,
+            self.drive.state.standing,
             Standing::Waiting | Standing::Contending { .. }
         )
     }
@@ -90,13 +84,13 @@ impl Driver {
         ensures answer { result ≡ master.place_one (master_of self.old).standing }
         ensures after { master_of self.new ≡ master.placing (order_of order) (master_of self.old) }
     {
-        let Standing::Idle = self.state.standing else {
+        if self.drive.state.standing != Standing::Idle {
             return Err(Refusal::NotIdle);
-        };
-        self.order = order;
-        self.state.losses = 0;
-        self.state.standing = Standing::Waiting;
-        begin(&mut self.block);
+        }
+        self.drive.order = order;
+        self.drive.state.losses = 0;
+        self.drive.state.standing = Standing::Waiting;
+        begin(&mut self.drive.block);
         Ok(())
     }
 
@@ -105,11 +99,11 @@ impl Driver {
         ensures answer { result ≡ master.withdraw_one (master_of self.old).turn (master_of self.old).standing }
         ensures after { master_of self.new ≡ master.withdrawing (master_of self.old) }
     {
-        match self.state.standing {
+        match self.drive.state.standing {
             Standing::Idle | Standing::Answered => Err(Refusal::NotWaiting),
-            Standing::Waiting if is_starting(&self.block) => {
-                self.state.standing = Standing::Idle;
-                release(&mut self.block);
+            Standing::Waiting if is_starting(&self.drive.block) => {
+                self.drive.state.standing = Standing::Idle;
+                release(&mut self.drive.block);
                 Ok(())
             }
             Standing::Contending { .. } | Standing::Waiting => Err(Refusal::BusNotFree),
@@ -122,27 +116,24 @@ impl Driver {
         ensures bytes { buffer.new ≡ master.filled buffer.old (master_of self.old).standing }
         ensures after { master_of self.new ≡ master.collecting (length buffer.old) (master_of self.old) }
     {
-        let Standing::Answered = self.state.standing else {
+        if self.drive.state.standing != Standing::Answered {
             return Err(Refusal::NotAnswered);
-        };
+        }
         let finished = Finished::new(
-            self.order,
-            self.state.outcome,
-            self.state.losses,
-            self.state.bytes,
+            self.drive.order,
+            self.drive.state.outcome,
+            self.drive.state.losses,
+            self.drive.state.bytes,
         );
         let answer = finished.collect(buffer)?;
-        self.state.standing = Standing::Idle;
+        self.drive.state.standing = Standing::Idle;
         Ok(answer)
     }
 
     // What IICSE0 reads as.
     pub fn status(&self) -> u16
-        ensures { result ≡ read_value self.now.block status_register }
+        ensures { result ≡ read_value self.now.drive.block status_register }
     {
-        match self.block.read(IICSE0) {
-            Ok(status) => status,
-            Err(_) => 0,
-        }
+        self.drive.block.read(IICSE0).unwrap_or(0)
     }
 }
