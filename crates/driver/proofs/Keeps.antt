@@ -42,7 +42,7 @@ pub record After (d : Driver) (x : Symbol) (o : code.Order) (r : Known) (b : Blo
 after_is : (d : Driver) (x : Symbol) (r : Known) (b : Block) → Heard (order_of d.drive.order) (known_of d.drive.state) d.drive.block x r b → After d x d.drive.order r b
 after_is d x r b w = record {
   sound = w.sound;
-  few = subst (λ (st : masters.Standing). read_most st ≤ read_total (order_of d.drive.order)) (sym w.standing) (hears_few (order_of d.drive.order) d.drive.state.standing d.drive.block.turn d.drive.block.shift (known_of d.drive.state) x d.room);
+  few = subst (λ (st : masters.Standing). read_most st ≤ read_total (order_of d.drive.order)) (sym w.standing) (hears_few (order_of d.drive.order) (known_of d.drive.state).standing d.drive.block.turn d.drive.block.shift (known_of d.drive.state) x d.room);
   master_is = ap (λ (t : Turn). record { turn = t; standing = standing_of (order_of d.drive.order) r b }) w.turn ∙ ap (λ (st : masters.Standing). record { turn = next d.drive.block.turn x; standing = st }) w.standing;
   clears = w.clears;
 }
@@ -50,17 +50,17 @@ after_is d x r b w = record {
 -- the five calls of a slot, one after the other
 pub slot_heard : (d : Driver) (x : Symbol) (tried : Bool) (m : Block) (u v w : Drive)
     → tried ≡ starts d.drive.block.task → m ≡ heard d.drive.block x
-    → Led (record { block = m; order = d.drive.order; state = d.drive.state }) u (heard_block (order_of d.drive.order) tried x d.drive.state.standing m) (heard_known (order_of d.drive.order) tried x d.drive.state.standing m (known_of d.drive.state))
+    → Led (record { block = m; order = d.drive.order; state = d.drive.state }) u (heard_block (order_of d.drive.order) tried x (known_of d.drive.state).standing m) (heard_known (order_of d.drive.order) tried x (known_of d.drive.state).standing m (known_of d.drive.state))
     → Led u v (loss_cleared x u.block) (known_of u.state)
-    → Led v w (retried v.state.standing v.block) (known_of v.state)
+    → Led v w (retried (known_of v.state).standing v.block) (known_of v.state)
     → After d x w.order (known_of w.state) w.block
 slot_heard d x tried m u v w et em responds clears retries =
     let ss = order_of d.drive.order in
-    let st = d.drive.state.standing in
+    let st = (known_of d.drive.state).standing in
     let k : Known = known_of d.drive.state in
     let R : known_of v.state ≡ after_known ss k d.drive.block x = clears.known_is ∙ responds.known_is ∙ ap (λ (t : Bool). heard_known ss t x st m k) et ∙ ap (λ (b : Block). heard_known ss (starts d.drive.block.task) x st b k) em in
     let B : u.block ≡ heard_block ss (starts d.drive.block.task) x st (heard d.drive.block x) = responds.block_is ∙ ap (λ (t : Bool). heard_block ss t x st m) et ∙ ap (λ (b : Block). heard_block ss (starts d.drive.block.task) x st b) em in
-    let E : w.block ≡ after_block ss k d.drive.block x = retries.block_is ∙ ap (λ (b : Block). retried v.state.standing b) clears.block_is ∙ ap (λ (r : Known). retried r.standing (loss_cleared x u.block)) R ∙ ap (λ (b : Block). retried (after_known ss k d.drive.block x).standing (loss_cleared x b)) B in
+    let E : w.block ≡ after_block ss k d.drive.block x = retries.block_is ∙ ap (λ (b : Block). retried (known_of v.state).standing b) clears.block_is ∙ ap (λ (r : Known). retried r.standing (loss_cleared x u.block)) R ∙ ap (λ (b : Block). retried (after_known ss k d.drive.block x).standing (loss_cleared x b)) B in
     subst (λ (o : code.Order). After d x o (known_of w.state) w.block) (sym (retries.order_stands ∙ clears.order_stands ∙ responds.order_stands))
     (subst (λ (r : Known). After d x d.drive.order r w.block) (sym (retries.known_is ∙ R))
     (subst (λ (b : Block). After d x d.drive.order (after_known ss k d.drive.block x) b) (sym E)

@@ -13,9 +13,9 @@ mod calls;
 #[derive(Clone, Copy)]
 pub struct Driver {
     drive: Drive,
-    ghost tied: { drive.block ≡ tied_of (order_of drive.order) drive.state.standing drive.block.turn drive.block },
-    ghost turned: { turned_of (order_of drive.order) drive.state.standing drive.block.shift drive.block.turn ≡ true },
-    ghost unacked: { unacked_of drive.state.standing drive.block.turn drive.block.status.ackd0 ≡ true },
-    ghost real: { real_of (order_of drive.order) drive.state.standing ≡ true },
+    ghost tied: { drive.block ≡ tied_of (order_of drive.order) (known_of drive.state).standing drive.block.turn drive.block },
+    ghost turned: { turned_of (order_of drive.order) (known_of drive.state).standing drive.block.shift drive.block.turn ≡ true },
+    ghost unacked: { unacked_of (known_of drive.state).standing drive.block.turn drive.block.status.ackd0 ≡ true },
+    ghost real: { real_of (order_of drive.order) (known_of drive.state).standing ≡ true },
     ghost room: { read_most (standing_of (order_of drive.order) (known_of drive.state) drive.block) ≤ read_total (order_of drive.order) },
 }

@@ -15,9 +15,7 @@ use Rattle.driving.specs.declared.access.Flag.{Flag}
 use Rattle.driving.specs.declared.access.Flag.TheVariants.{Msts0, Ald0, Ackd0}
 use Rattle.driving.specs.declared.Phase.{Phase}
 use Rattle.driving.specs.declared.Phase.TheVariants.{Opening, Address, Write, Read, Stopping}
-use Rattle.driving.specs.declared.Standing.{Standing}
-use Rattle.driving.specs.declared.Standing.TheVariants.{Idle, Waiting, Contending, Answered}
-use Rattle.driving.specs.States.{Known}
+use Rattle.driving.specs.States.{Standing, Idle, Waiting, Contending, Answered, Known}
 
 -- the address byte: seven bits, then the direction
 abbrev pub address_byte_of : Segment → ℕ
@@ -89,8 +87,9 @@ with_byte r v = record { standing = r.standing; losses = r.losses; outcome = r.o
 abbrev pub failed : Known → Outcome → ℕ → Known
 failed r o i = record { standing = Contending Stopping i 0; losses = r.losses; outcome = o; bytes = r.bytes }
 
+-- one loss more; 999 stay 999
 abbrev pub lost : Known → Known
-lost r = record { standing = Waiting; losses = min 999 (r.losses + 1); outcome = r.outcome; bytes = r.bytes }
+lost r = record { standing = Waiting; losses = min 999 (r.losses + 1); outcome = Done; bytes = [] }
 
 abbrev pub entered : Known → Known
 entered r = record { standing = Contending Address 0 0; losses = r.losses; outcome = Done; bytes = [] }

@@ -1,14 +1,23 @@
 -- What the register master knows beside its block. Assumes nothing.
---     Known       how it stands, its losses, the outcome so far, and the bytes read
---     known_of    what a state of the code means
+--     Standing    how it stands
+--     Known       with its losses, the outcome so far, and the bytes read
+--     known_of    what a state of the code means; what a state has none of is 0, Done or no byte
 --     Led         what a step leads to: the order stands, and the block and what is known come to these
-use Rattle.std.specs.Prelude.{◌≡◌, ℕ, List}
+use Rattle.std.specs.Prelude.{◌≡◌, ℕ, List, []}
 use Rattle.orders.specs.declared.Outcome.{Outcome}
+use Rattle.orders.specs.declared.Outcome.TheVariants.{Done}
 use Rattle.orders.specs.Held.{held}
 use Rattle.block.specs.declared.Block.{Block}
 use Rattle.driving.specs.declared.Drive.{Drive}
-use Rattle.driving.specs.declared.Standing.{Standing}
+use Rattle.driving.specs.declared.Phase.{Phase}
 use Rattle.driving.specs.declared.State.{State}
+use Rattle.driving.specs.declared.State.TheVariants as state
+
+pub data Standing : Type 0 where
+  Idle : Standing
+  Waiting : Standing
+  Contending : Phase → (segment byte : ℕ) → Standing
+  Answered : Standing
 
 pub record Known : Type 0 where
   pub standing : Standing
@@ -17,7 +26,10 @@ pub record Known : Type 0 where
   pub bytes : List ℕ
 
 abbrev pub known_of : State → Known
-known_of s = record { standing = s.standing; losses = s.losses; outcome = s.outcome; bytes = held s.bytes }
+known_of state.Idle = record { standing = Idle; losses = 0; outcome = Done; bytes = [] }
+known_of (state.Waiting losses) = record { standing = Waiting; losses = losses; outcome = Done; bytes = [] }
+known_of (state.Contending c) = record { standing = Contending c.phase c.segment c.byte; losses = c.losses; outcome = c.outcome; bytes = held c.bytes }
+known_of (state.Answered losses outcome bytes) = record { standing = Answered; losses = losses; outcome = outcome; bytes = held bytes }
 
 pub record Led (old new : Drive) (block : Block) (known : Known) : Type 0 where
   pub order_stands : new.order ≡ old.order

@@ -18,22 +18,31 @@ pub enum Phase {
     Stopping,
 }
 
+// An order on the wires: how often it had lost before, and how far it has come, with the outcome so far and the bytes read.
 // Segments and bytes count from 0; the bits of a byte are counted by the block.
-#[derive(Clone, Copy, Debug, PartialEq, Eq, Hash)]
-pub enum Standing {
-    Idle,
-    Waiting,
-    Contending { phase: Phase, segment: u8, byte: u8 },
-    Answered,
-}
-
-// What is kept beside the block and the order: the bytes are those read so far.
 #[derive(Clone, Copy)]
-pub struct State {
-    pub standing: Standing,
+pub struct Contender {
     pub losses: u16,
+    pub phase: Phase,
+    pub segment: u8,
+    pub byte: u8,
     pub outcome: Outcome,
     pub bytes: Bytes,
+}
+
+// What is kept beside the block and the order.
+#[derive(Clone, Copy)]
+pub enum State {
+    Idle,
+    Waiting {
+        losses: u16,
+    },
+    Contending(Contender),
+    Answered {
+        losses: u16,
+        outcome: Outcome,
+        bytes: Bytes,
+    },
 }
 
 // A block, the order that it is worked for, and how far it has come in it.

@@ -1,5 +1,5 @@
 -- A contender that loses, and one that goes on in a byte. Assumes nothing.
-use Rattle.std.proofs.Common.{◌≡◌, ℕ, ◌+◌, min, Bool, true, false, cond, not, ◌&&◌, ◌||◌, sym, refl, subst}
+use Rattle.std.proofs.Common.{◌≡◌, ℕ, Bool, true, false, cond, not, ◌&&◌, ◌||◌, sym, refl, subst}
 use borrow.Author.Tests.{clash}
 use Rattle.bus.specs.declared.Symbol.{Symbol}
 use Rattle.bus.specs.declared.Symbol.TheVariants as symbol
@@ -18,8 +18,7 @@ use Rattle.block.specs.Flags.{loss, flag}
 use Rattle.block.specs.Heard.{moved_on, bit_passed}
 use Rattle.driving.specs.declared.Phase.{Phase}
 use Rattle.driving.specs.declared.Phase.TheVariants.{Opening, Address, Write, Read, Stopping}
-use Rattle.driving.specs.declared.Standing.TheVariants.{Waiting, Contending}
-use Rattle.driving.specs.States.{Known}
+use Rattle.driving.specs.States.{Waiting, Contending, Known}
 use Rattle.driving.specs.Driving.{heard_block, heard_known, loss_cleared, retried, with_standing, lost, ends}
 use Rattle.driving_laws.specs.Tied.{patched, tied, phase_task}
 use Rattle.driving_laws.specs.Meaning.{standing_of}
@@ -146,7 +145,7 @@ module _ (ss : Order) (r : Known) (b : Block) where
   lost_out p i j t x q o e =
       let m = moved_on (P p i j t) x in
       let s = starts (phase_task ss p i j) in
-      let w : Heard ss (R p i j) (P p i j t) x (lost (R p i j)) (retried Waiting (loss_cleared x m)) = waits_on ss (R p i j) (P p i j t) m x (min 999 (r.losses + 1)) q refl e in
+      let w : Heard ss (R p i j) (P p i j t) x (lost (R p i j)) (retried Waiting (loss_cleared x m)) = waits_on ss (R p i j) (lost (R p i j)) (P p i j t) m x q refl e in
       let er : heard_known ss s x (Contending p i j) m (R p i j) ≡ lost (R p i j) = rw (q.no_master, o) refl in
       let eb : heard_block ss s x (Contending p i j) m ≡ m = rw q.no_master refl in
       moved_goal p i j t x

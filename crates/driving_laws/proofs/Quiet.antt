@@ -1,5 +1,5 @@
 -- A block with nothing to do, and what the register master makes of it. Assumes nothing.
-use Rattle.std.proofs.Common.{◌≡◌, ℕ, Bool, true, false, cond, [], sym, refl, ap, ◌∙◌, subst}
+use Rattle.std.proofs.Common.{◌≡◌, Bool, true, false, cond, [], sym, refl, ap, ◌∙◌, subst}
 use borrow.Author.Tests.{clash}
 use Rattle.bus.specs.declared.Symbol.{Symbol}
 use Rattle.bus.specs.declared.Symbol.TheVariants as symbol
@@ -18,9 +18,7 @@ use Rattle.block.specs.declared.Task.TheVariants as task
 use Rattle.block.specs.Slots.{is_ninth}
 use Rattle.block.specs.Tasks.{waits}
 use Rattle.block.specs.Heard.{heard, moved_on}
-use Rattle.driving.specs.declared.Standing.{Standing}
-use Rattle.driving.specs.declared.Standing.TheVariants.{Idle, Waiting, Answered}
-use Rattle.driving.specs.States.{Known}
+use Rattle.driving.specs.States.{Standing, Idle, Waiting, Answered, Known}
 use Rattle.driving.specs.Driving.{loss_cleared, retried, renewed, begun, with_standing}
 use Rattle.driving_laws.specs.Tied.{patched, tied, task_of, acks_of, is_contending, sends_of}
 use Rattle.driving_laws.specs.Meaning.{standing_of}
@@ -142,10 +140,10 @@ pub quiet_begun : (ss : Order) (b : Block) → Quiet b → Begins ss b
 quiet_begun ss b q = subst (λ (v : Block). Begins ss v) (sym (quiet_idle ss b q)) (begun_is ss b b.turn b.control.acke0)
 
 -- who waits after a slot with a quiet block
-pub waits_on : (ss : Order) (r : Known) (b m : Block) (x : Symbol) (l : ℕ) → Quiet m → m.turn ≡ next b.turn x
-    → standing_of ss (record { standing = Waiting; losses = l; outcome = r.outcome; bytes = r.bytes }) m ≡ hears b.turn x (standing_of ss r b)
-    → Heard ss r b x (record { standing = Waiting; losses = l; outcome = r.outcome; bytes = r.bytes }) (retried Waiting (loss_cleared x m))
-waits_on ss r b m x l q t e =
+pub waits_on : (ss : Order) (r k : Known) (b m : Block) (x : Symbol) → Quiet m → m.turn ≡ next b.turn x
+    → standing_of ss (with_standing k Waiting) m ≡ hears b.turn x (standing_of ss r b)
+    → Heard ss r b x (with_standing k Waiting) (retried Waiting (loss_cleared x m))
+waits_on ss r k b m x q t e =
     let f = cleared_is x m q in
     let g = quiet_begun ss (loss_cleared x m) f.0 in
     record {

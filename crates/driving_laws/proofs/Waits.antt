@@ -1,5 +1,5 @@
 -- Who waits, in a slot. Assumes nothing.
-use Rattle.std.proofs.Common.{◌≡◌, suc, ◌+◌, min, false, List, ◌∷◌, length, refl, ap, arith, lt-ltb}
+use Rattle.std.proofs.Common.{◌≡◌, suc, false, List, ◌∷◌, length, refl, ap, arith, lt-ltb}
 use borrow.Author.Tests.{clash}
 use Rattle.bus.specs.declared.Symbol.{Symbol}
 use Rattle.bus.specs.declared.Symbol.TheVariants as symbol
@@ -15,9 +15,8 @@ use Rattle.masters.specs.Standings.{hears}
 use Rattle.block.specs.declared.Block.{Block}
 use Rattle.block.specs.declared.Task.TheVariants as task
 use Rattle.block.specs.Heard.{heard}
-use Rattle.driving.specs.declared.Standing.TheVariants.{Waiting}
-use Rattle.driving.specs.States.{Known}
-use Rattle.driving.specs.Driving.{loss_cleared, retried, with_standing}
+use Rattle.driving.specs.States.{Waiting, Known}
+use Rattle.driving.specs.Driving.{loss_cleared, retried, with_standing, lost}
 use Rattle.driving_laws.specs.Tied.{patched, tied}
 use Rattle.driving_laws.specs.Meaning.{standing_of}
 use Rattle.driving_laws.specs.Agreement.{Heard, Hears}
@@ -34,15 +33,15 @@ module _ (s : Segment) (ss : Order) (r : Known) (b : Block) where
   waits_busy : (t : Turn) (x : Symbol) (q : Quiet (heard (patched b t task.Rest b.control.acke0 false false) x))
       → standing_of all (with_standing r Waiting) (heard (patched b t task.Rest b.control.acke0 false false) x) ≡ hears t x (standing_of all (with_standing r Waiting) (patched b t task.Rest b.control.acke0 false false))
       → Heard all (with_standing r Waiting) (patched b t task.Rest b.control.acke0 false false) x (with_standing r Waiting) (retried Waiting (loss_cleared x (heard (patched b t task.Rest b.control.acke0 false false) x)))
-  waits_busy t x q e = waits_on all (with_standing r Waiting) (patched b t task.Rest b.control.acke0 false false) (heard (patched b t task.Rest b.control.acke0 false false) x) x r.losses q (quiet_turn b t b.control.acke0 x) e
+  waits_busy t x q e = waits_on all (with_standing r Waiting) r (patched b t task.Rest b.control.acke0 false false) (heard (patched b t task.Rest b.control.acke0 false false) x) x q (quiet_turn b t b.control.acke0 x) e
 
   quietly : (t : Turn) (x : Symbol) → Quiet (heard (patched b t task.Rest b.control.acke0 false false) x)
   quietly t x = quiet_heard b t b.control.acke0 x
 
   pub waiting_hears : (t : Turn) (x : Symbol) → Hears all (with_standing r Waiting) (tied all Waiting t b) x
-  waiting_hears turn.Free symbol.Zero = waits_on all (with_standing r Waiting) (tied all Waiting turn.Free b) (heard (tied all Waiting turn.Free b) symbol.Zero) symbol.Zero (min 999 (r.losses + 1)) (record { lit_up = refl; rests = refl; no_master = refl; no_sender = refl }) refl refl
-  waiting_hears turn.Free symbol.Stop = waits_on all (with_standing r Waiting) (tied all Waiting turn.Free b) (heard (tied all Waiting turn.Free b) symbol.Stop) symbol.Stop (min 999 (r.losses + 1)) (record { lit_up = refl; rests = refl; no_master = refl; no_sender = refl }) refl refl
-  waiting_hears turn.Free symbol.One = waits_on all (with_standing r Waiting) (tied all Waiting turn.Free b) (heard (tied all Waiting turn.Free b) symbol.One) symbol.One (min 999 (r.losses + 1)) (record { lit_up = refl; rests = refl; no_master = refl; no_sender = refl }) refl refl
+  waiting_hears turn.Free symbol.Zero = waits_on all (with_standing r Waiting) (lost r) (tied all Waiting turn.Free b) (heard (tied all Waiting turn.Free b) symbol.Zero) symbol.Zero (record { lit_up = refl; rests = refl; no_master = refl; no_sender = refl }) refl refl
+  waiting_hears turn.Free symbol.Stop = waits_on all (with_standing r Waiting) (lost r) (tied all Waiting turn.Free b) (heard (tied all Waiting turn.Free b) symbol.Stop) symbol.Stop (record { lit_up = refl; rests = refl; no_master = refl; no_sender = refl }) refl refl
+  waiting_hears turn.Free symbol.One = waits_on all (with_standing r Waiting) (lost r) (tied all Waiting turn.Free b) (heard (tied all Waiting turn.Free b) symbol.One) symbol.One (record { lit_up = refl; rests = refl; no_master = refl; no_sender = refl }) refl refl
   waiting_hears turn.Free symbol.Start =
       record {
         sound = record { is_tied = refl; is_turned = refl; is_unacked = refl; is_real = lt-ltb 0 (suc (length ss)) (omega arith) };

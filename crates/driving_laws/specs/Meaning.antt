@@ -16,9 +16,7 @@ use Rattle.masters.specs.Standings as masters
 use Rattle.block.specs.declared.Block.{Block}
 use Rattle.driving.specs.declared.Phase.{Phase}
 use Rattle.driving.specs.declared.Phase.TheVariants.{Opening, Address, Write, Read, Stopping}
-use Rattle.driving.specs.declared.Standing.{Standing}
-use Rattle.driving.specs.declared.Standing.TheVariants.{Idle, Waiting, Contending, Answered}
-use Rattle.driving.specs.States.{Known}
+use Rattle.driving.specs.States.{Standing, Idle, Waiting, Contending, Answered, Known}
 
 abbrev pub address_stage : Turn → Stage
 address_stage turn.Free = stage.Opening

@@ -12,8 +12,8 @@ ghost use Rattle.driver.specs.Driver.{master_of};
 use super::Driver;
 use block::IICSE0;
 use bus::Symbol;
-use driving::{Drive, Standing, State, assembled, begin, is_starting, release};
-use orders::{Answer, Bytes, Order, Outcome};
+use driving::{Drive, State, assembled, begin, is_starting, release};
+use orders::{Answer, Order};
 use progress::Finished;
 use refusals::Refusal;
 
@@ -27,12 +27,7 @@ impl Driver {
             drive: Drive {
                 block: assembled(),
                 order: Order::new(),
-                state: State {
-                    standing: Standing::Idle,
-                    losses: 0,
-                    outcome: Outcome::Done,
-                    bytes: Bytes::new(),
-                },
+                state: State::Idle,
             },
         }
     }
@@ -74,8 +69,8 @@ impl Driver {
         ensures { result ≡ is_waiting (master_of self.now).standing }
     {
         matches!(
-            self.drive.state.standing,
-            Standing::Waiting | Standing::Contending { .. }
+            self.drive.state,
+            State::Waiting { .. } | State::Contending(_)
         )
     }
 
@@ -84,12 +79,11 @@ impl Driver {
         ensures answer { result ≡ master.place_one (master_of self.old).standing }
         ensures after { master_of self.new ≡ master.placing (order_of order) (master_of self.old) }
     {
-        if self.drive.state.standing != Standing::Idle {
+        let State::Idle = self.drive.state else {
             return Err(Refusal::NotIdle);
-        }
+        };
         self.drive.order = order;
-        self.drive.state.losses = 0;
-        self.drive.state.standing = Standing::Waiting;
+        self.drive.state = State::Waiting { losses: 0 };
         begin(&mut self.drive.block);
         Ok(())
     }
@@ -99,14 +93,14 @@ impl Driver {
         ensures answer { result ≡ master.withdraw_one (master_of self.old).turn (master_of self.old).standing }
         ensures after { master_of self.new ≡ master.withdrawing (master_of self.old) }
     {
-        match self.drive.state.standing {
-            Standing::Idle | Standing::Answered => Err(Refusal::NotWaiting),
-            Standing::Waiting if is_starting(&self.drive.block) => {
-                self.drive.state.standing = Standing::Idle;
+        match self.drive.state {
+            State::Idle | State::Answered { .. } => Err(Refusal::NotWaiting),
+            State::Waiting { .. } if is_starting(&self.drive.block) => {
+                self.drive.state = State::Idle;
                 release(&mut self.drive.block);
                 Ok(())
             }
-            Standing::Contending { .. } | Standing::Waiting => Err(Refusal::BusNotFree),
+            State::Contending(_) | State::Waiting { .. } => Err(Refusal::BusNotFree),
         }
     }
 
@@ -116,17 +110,17 @@ impl Driver {
         ensures bytes { buffer.new ≡ master.filled buffer.old (master_of self.old).standing }
         ensures after { master_of self.new ≡ master.collecting (length buffer.old) (master_of self.old) }
     {
-        if self.drive.state.standing != Standing::Answered {
+        let State::Answered {
+            losses,
+            outcome,
+            bytes,
+        } = self.drive.state
+        else {
             return Err(Refusal::NotAnswered);
-        }
-        let finished = Finished::new(
-            self.drive.order,
-            self.drive.state.outcome,
-            self.drive.state.losses,
-            self.drive.state.bytes,
-        );
+        };
+        let finished = Finished::new(self.drive.order, outcome, losses, bytes);
         let answer = finished.collect(buffer)?;
-        self.drive.state.standing = Standing::Idle;
+        self.drive.state = State::Idle;
         Ok(answer)
     }
 

@@ -6,11 +6,11 @@ use Rattle.driver.proofs.master.Driver.hear.Goals as goal
 pub invariant_of-self : goal.invariant_of-self
 invariant_of-self c =
     let w = slot_heard c.args.self.now c.args.carried c.is_starting-tried.result c.hear.new.self c.respond.new.self c.clear_loss.new.self c.retry.new.self
-        c.is_starting-tried.ensures c.hear.ensures c.respond.ensures c.clear_loss.ensures c.retry.ensures in
+    c.is_starting-tried.ensures c.hear.ensures c.respond.ensures c.clear_loss.ensures c.retry.ensures in
     record { tied = w.sound.is_tied; turned = w.sound.is_turned; unacked = w.sound.is_unacked; real = w.sound.is_real; room = w.few }
 
 pub returns : goal.returns
 returns c =
     let w = slot_heard c.args.self.now c.args.carried c.is_starting-tried.result c.hear.new.self c.respond.new.self c.clear_loss.new.self c.retry.new.self
-        c.is_starting-tried.ensures c.hear.ensures c.respond.ensures c.clear_loss.ensures c.retry.ensures in
+    c.is_starting-tried.ensures c.hear.ensures c.respond.ensures c.clear_loss.ensures c.retry.ensures in
     record { master = w.master_is; renewed = λ q. w.clears (ap is_stop q) }
