@@ -1,4 +1,5 @@
 // The status of a register master, slot by slot; the slots of slaves and of another master are given.
+use crate::status::check_flags;
 use bus::Symbol;
 use driver::Driver;
 use orders::{Order, RawSegment};
@@ -22,15 +23,15 @@ fn hear_own(driver: &mut Driver, slots: u8) {
     }
 }
 
-// MSTS0 ALD0 EXC0 COI0 TRC0 ACKD0 STD0 SPD0.
-fn check_status(rt: &impl Abort, driver: &Driver, row: &[u8]) {
-    let mut left = driver.status();
-    for flag in row {
-        let is_set = left >= 0x8000;
-        assert!(rt; (*flag == b'1') == is_set);
-        left = left << 1;
+// The lowest bits of a byte, so many of them.
+fn hear_bits(driver: &mut Driver, byte: u8, bits: u8) {
+    for place in (0..bits).rev() {
+        driver.hear(Symbol::of_bit(byte, place));
     }
-    assert_eq!(rt; left, 0);
+}
+
+fn check_status(rt: &impl Abort, driver: &Driver, row: &[u8]) {
+    check_flags(rt, driver.status(), row);
 }
 
 #[test]
@@ -62,9 +63,7 @@ fn reads_one_byte(rt: HostRuntime) -> Result<(), Fail> {
     hear_own(&mut driver, 9);
     driver.hear(Symbol::Zero);
     check_status(&rt, &driver, b"10000110");
-    for place in 0u8..8 {
-        driver.hear(Symbol::of_bit(25, 7 - place));
-    }
+    hear_bits(&mut driver, 25, 8);
     hear_own(&mut driver, 1);
     check_status(&rt, &driver, b"10000000");
     hear_own(&mut driver, 1);
@@ -88,14 +87,10 @@ fn loses_and_starts_again(rt: HostRuntime) {
     hear_own(&mut driver, 3);
     driver.hear(Symbol::Zero);
     check_status(&rt, &driver, b"01000010");
-    for place in 3u8..8 {
-        driver.hear(Symbol::of_bit(0x91, 7 - place));
-    }
+    hear_bits(&mut driver, 0x91, 5);
     driver.hear(Symbol::Zero);
     check_status(&rt, &driver, b"01000110");
-    for place in 0u8..8 {
-        driver.hear(Symbol::of_bit(25, 7 - place));
-    }
+    hear_bits(&mut driver, 25, 8);
     driver.hear(Symbol::One);
     check_status(&rt, &driver, b"01000000");
     driver.hear(Symbol::Stop);

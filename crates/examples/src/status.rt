@@ -18,14 +18,20 @@ const RECEIVE: u32 = 0xA8;
 
 const RECEIVE_MORE: u32 = 0xAC;
 
-fn check_row(rt: &impl Abort, block: &Block, row: &[u8]) -> Result<(), Fail> {
-    let mut left = block.read(IICSE0).ok().ok_or("IICSE0 is refused")?;
+// MSTS0 ALD0 EXC0 COI0 TRC0 ACKD0 STD0 SPD0, and below them 0s.
+pub(crate) fn check_flags(rt: &impl Abort, status: u16, row: &[u8]) {
+    let mut left = status;
     for flag in row {
         let is_set = left >= 0x8000;
         assert!(rt; *flag == b'x' || (*flag == b'1') == is_set);
         left = left << 1;
     }
     assert_eq!(rt; left, 0);
+}
+
+fn check_row(rt: &impl Abort, block: &Block, row: &[u8]) -> Result<(), Fail> {
+    let status = block.read(IICSE0).ok().ok_or("IICSE0 is refused")?;
+    check_flags(rt, status, row);
     Ok(())
 }
 
@@ -61,8 +67,8 @@ fn send(rt: &impl Abort, block: &mut Block, byte: u8, ninth: Symbol) -> Result<(
 }
 
 fn hear_byte(block: &mut Block, byte: u8) {
-    for sent in 0u8..8 {
-        block.hear(Symbol::of_bit(byte, 7 - sent));
+    for place in (0..8).rev() {
+        block.hear(Symbol::of_bit(byte, place));
     }
 }
 
