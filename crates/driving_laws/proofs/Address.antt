@@ -1,5 +1,6 @@
 -- A contender in its address byte. Assumes nothing.
 use Rattle.std.proofs.Common.{◌≡◌, ℕ, zero, suc, ◌-◌, ◌/◌, ◌^◌, Bool, true, false, cond, not, ◌&&◌, ◌||◌, eqb, ltb, List, length, sym, refl, ap, ◌∙◌, subst, arith, ltb-false, ltb-true, lt-ltb}
+use Rattle.std.proofs.lemmas.Bool.{cond-true, not-true}
 use borrow.Author.Tests.{clash, eqb_apart}
 use Rattle.bus.specs.declared.Symbol.{Symbol}
 use Rattle.bus.specs.declared.Symbol.TheVariants as symbol
@@ -29,10 +30,10 @@ use Rattle.driving_laws.specs.Tied.{tied, turned, unacked}
 use Rattle.driving_laws.specs.Meaning.{progress_at, address_stage}
 use Rattle.driving_laws.specs.Agreement.{Heard, Hears}
 use Rattle.driving_laws.proofs.Quiet.{tie, contends, noted}
-use Rattle.driving_laws.proofs.Lost.{lost_quiet, lost_out, not_true}
+use Rattle.driving_laws.proofs.Lost.{lost_quiet, lost_out}
 use Rattle.driving_laws.proofs.Bits.{same_as, own_direction, own_address, plain, becomes_kept, becomes_lost, Kept, kept}
 use Rattle.driving_laws.proofs.Resume.{resume_write, resume_read, resumed_hears}
-use Rattle.driving_laws.proofs.Mid.{pick, not_and, not_both, moving, mid_out}
+use Rattle.driving_laws.proofs.Mid.{not_and, not_both, moving, mid_out}
 
 module _ (ss : Order) (r : Known) (b : Block) where
   abbrev R : Phase → ℕ → ℕ → Known
@@ -77,7 +78,7 @@ module _ (ss : Order) (r : Known) (b : Block) where
         let m = moved_on (P Address i j (turn.Address n)) x in
         let mv = moving m (task.Send v) K.task_kept refl in
         let kp : keeps (turn.Address n) x (script.offer (todo_at ss i (address_stage (turn.Address n)))) ≡ true = same_as _ _ x (own_at n) ∙ f in
-        mid_out ss r b Address i j (turn.Address n) x K.msts_kept (pick (byte_moves m) _ _ mv) (pick (byte_moves m) _ _ mv) ns
+        mid_out ss r b Address i j (turn.Address n) x K.msts_kept (cond-true (byte_moves m) _ _ mv) (cond-true (byte_moves m) _ _ mv) ns
         (record {
           sound = record { is_tied = tie ss (Contending Address i j) m refl K.task_kept K.msts_kept K.trc_kept; is_turned = turned_on n x m.shift e f ib; is_unacked = ua; is_real = here-is };
           turn = refl;
@@ -126,8 +127,8 @@ module _ (ss : Order) (r : Known) (b : Block) where
     refused_at d = record { sound = record { is_tied = refl; is_turned = refl; is_unacked = refl; is_real = refl }; turn = refl; standing = refl; clears = λ z. absurd (clash z) }
 
     address_refused : (d : Direction) → unacked (Contending Address i j) (turn.AddressNinth d) b.status.ackd0 ≡ true → Goal Address i j (turn.AddressNinth d) symbol.One
-    address_refused direction.Write e = subst (λ (c : Bool). Refused direction.Write c) (sym (not_true b.status.ackd0 e)) (refused_at direction.Write)
-    address_refused direction.Read e = subst (λ (c : Bool). Refused direction.Read c) (sym (not_true b.status.ackd0 e)) (refused_at direction.Read)
+    address_refused direction.Write e = subst (λ (c : Bool). Refused direction.Write c) (sym (not-true b.status.ackd0 e)) (refused_at direction.Write)
+    address_refused direction.Read e = subst (λ (c : Bool). Refused direction.Read c) (sym (not-true b.status.ackd0 e)) (refused_at direction.Read)
 
     address_taken : (s : Segment) (d : Direction) → here ss i ≡ s → same (heading s) (heading_bit d) ≡ true → (reads s ≡ true → ltb 0 (count s) ≡ true) → Goal Address i j (turn.AddressNinth d) symbol.Zero
     address_taken (writing a bs) direction.Write e f g =

@@ -1,5 +1,5 @@
 -- The bits that a block sends are those of the plan; what a kept slot leaves. Assumes nothing.
-use Rattle.std.proofs.Common.{◌≡◌, ℕ, suc, ◌+◌, ◌*◌, ◌/◌, ◌%◌, ◌^◌, Bool, true, false, cond, eqb, sym, refl, ap, ◌∙◌, arith}
+use Rattle.std.proofs.Common.{◌≡◌, ℕ, suc, ◌+◌, ◌-◌, ◌*◌, ◌/◌, ◌%◌, ◌^◌, Bool, true, false, cond, eqb, ltb, sym, refl, ap, ◌∙◌, arith, ltb-false, ltb-true}
 use borrow.Author.Tests.{clash}
 use Rattle.bus.specs.declared.Symbol.{Symbol}
 use Rattle.bus.specs.declared.Symbol.TheVariants as symbol
@@ -69,3 +69,8 @@ kept b t k a r symbol.Zero i l n w d p = record { task_kept = task_mid _ _ k l n
 kept b t k a r symbol.One i l n w d p = record { task_kept = task_mid _ _ k l n p; msts_kept = msts_mid _ l; trc_kept = trc_mid _ (after_write t) (after_read t) r l w d }
 kept b t k a r symbol.Stop i l n w d p = absurd (clash i)
 kept b t k a r symbol.Start i l n w d p = absurd (clash i)
+
+-- a reader's ninth slot gets 0 while more is wanted
+pub more_is : (j n : ℕ) (c : Bool) → ltb (j + 1) n ≡ c → cond c symbol.Zero symbol.One ≡ script.more (n - (j + 1))
+more_is j n true e = let z = ltb-true (j + 1) n e in let q : n - (j + 1) ≡ suc (n - suc (suc j)) = omega arith in rw q refl
+more_is j n false e = let z = ltb-false (j + 1) n e in let q : n - (j + 1) ≡ 0 = omega arith in rw q refl

@@ -1,6 +1,7 @@
 -- The bytes that a register master has read, and is to read, stay within its order. Assumes nothing.
 use mathlib.Core.Option.{none, some}
 use Rattle.std.proofs.Common.{ℕ, ◌≤◌, Bool, true, false, cond, arith}
+use Rattle.std.proofs.Math.Nat.{le_trans}
 use Rattle.bus.specs.declared.Symbol.{Symbol}
 use Rattle.bus.specs.declared.Turn.{Turn}
 use Rattle.bus.specs.Symbols.{is_stop}
@@ -12,9 +13,6 @@ use Rattle.progress.proofs.Room.{come_plan, come_next}
 use Rattle.masters.specs.Standings as masters
 use Rattle.driving.specs.States.{Standing, Idle, Waiting, Contending, Answered, Known}
 use Rattle.driving_laws.specs.Meaning.{standing_at, progress_at, read_most}
-
-trans_le : {a b c : ℕ} → a ≤ b → b ≤ c → a ≤ c
-trans_le p q = omega arith
 
 -- a contender reads no more in a slot than was to come
 becomes_few : (c p : Bool) (k : masters.Contender) (x : Symbol) → read_most (masters.becomes c p k x) ≤ read_most (masters.contending k)
@@ -36,5 +34,5 @@ hears_few ss Waiting t s r x h = waits_few t x ss r.losses (busy t)
 hears_few ss (Contending p i j) t s r x h =
     let k : masters.Contender = record { request = record { order = ss; losses = r.losses }; progress = progress_at ss p i j t s r } in
     let n : read_most (masters.hears t x (masters.contending k)) ≤ read_most (masters.contending k) = becomes_few (masters.keeps t x (script.offer k.progress.todo)) (is_stop x) k x in
-    trans_le n h
+    le_trans n h
 hears_few ss Answered t s r x h = h

@@ -1,5 +1,7 @@
 -- A contender that loses, and one that goes on in a byte. Assumes nothing.
-use Rattle.std.proofs.Common.{◌≡◌, ℕ, Bool, true, false, cond, not, ◌&&◌, ◌||◌, sym, refl, subst}
+use Rattle.std.proofs.Common.{◌≡◌, ℕ, Bool, true, false, cond, ◌&&◌, ◌||◌, sym, refl, subst}
+use Rattle.std.specs.Cmp.{first_so}
+use Rattle.std.proofs.lemmas.Bool.{not-true}
 use borrow.Author.Tests.{clash}
 use Rattle.bus.specs.declared.Symbol.{Symbol}
 use Rattle.bus.specs.declared.Symbol.TheVariants as symbol
@@ -28,14 +30,6 @@ use Rattle.driving_laws.proofs.Quiet.{Quiet, waits_on, heard_moves}
 no_and : (c : Bool) → (c && false) ≡ true → ⊥
 no_and true e = clash e
 no_and false e = clash e
-
-pub first : (c d : Bool) → (c && d) ≡ true → c ≡ true
-first true d e = refl
-first false d e = absurd (clash e)
-
-pub not_true : (c : Bool) → not c ≡ true → c ≡ false
-not_true true e = absurd (clash e)
-not_true false e = refl
 
 -- a loss in the slot after an address is no bit
 no_write : (t : Turn) (c : Bool) → (c && (masters_slot t || false)) ≡ true → after_write t ≡ false
@@ -89,7 +83,7 @@ lost_quiet b t k a r symbol.Stop l = let P = patched b t k a true r in
     record { lit_up = refl; rests = task_lost (loss P symbol.Stop) _ l; no_master = refl; no_sender = trc_lost false false true (loss P symbol.Stop) r refl l }
 lost_quiet b t k a r symbol.Start l =
     let P = patched b t k a true r in
-    let s : same (offers P) symbol.Start ≡ false = not_true _ (first _ _ l) in
+    let s : same (offers P) symbol.Start ≡ false = not-true _ (first_so _ _ l) in
     record {
       lit_up = refl;
       rests = task_lost (loss P symbol.Start) _ l;

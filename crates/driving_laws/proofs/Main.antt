@@ -1,12 +1,12 @@
 -- A slot and an offer, wherever the register master is. Assumes nothing.
-use Rattle.std.proofs.Common.{◌≡◌, ℕ, suc, ◌+◌, ◌-◌, ◌≤◌, Bool, true, false, cond, ltb, [], ◌∷◌, length, sym, refl, subst, arith, ltb-false, ltb-true, lt-ltb}
+use Rattle.std.proofs.Common.{◌≡◌, ℕ, ◌≤◌, true, ltb, [], ◌∷◌, length, sym, refl, subst, arith, lt-ltb}
+use Rattle.std.specs.Cmp.{first_so, second_so}
+use Rattle.std.proofs.lemmas.Bool.{not-true}
 use borrow.Author.Tests.{clash}
 use Rattle.bus.specs.declared.Symbol.{Symbol}
-use Rattle.bus.specs.declared.Symbol.TheVariants as symbol
 use Rattle.bus.specs.declared.Turn.{Turn}
 use Rattle.bus.specs.declared.Turn.TheVariants as turn
 use Rattle.orders.specs.Orders.{Order, reads, count, Lawful}
-use Rattle.scripts.specs.Scripts as script
 use Rattle.progress.specs.declared.Stage.TheVariants as stage
 use Rattle.progress.specs.Positions.{here}
 use Rattle.masters.specs.Standings as masters
@@ -21,15 +21,14 @@ use Rattle.progress.specs.Plans.{read_total}
 use Rattle.progress.proofs.Room.{read_few, come_at}
 use Rattle.std.proofs.lemmas.List.{length_push}
 use Rattle.driving_laws.specs.Agreement.{Sound, Hears}
-use Rattle.driving_laws.proofs.Lost.{not_true, first}
 use Rattle.driving_laws.proofs.Quiet.{idle_hears, answered_hears}
+use Rattle.driving_laws.proofs.Bits.{more_is}
 use Rattle.driving_laws.proofs.Waits.{waiting_hears}
-use Rattle.driving_laws.proofs.Mid.{second}
 use Rattle.driving_laws.proofs.Address.{address_hears, own_at}
 use Rattle.driving_laws.proofs.Borders.{opening_hears, stopping_hears, own_start_is}
 use Rattle.driving_laws.proofs.Writing.{write_hears}
 use Rattle.driving_laws.proofs.Reading.{read_hears}
-use Rattle.driving.proofs.Fair.{fair_at, some_segment}
+use Rattle.driving.proofs.Fair.{some_byte_at, some_segment}
 
 -- there is room for the byte under way
 byte_room : (ss : Order) (i j s : ℕ) (t : Turn) (r : Known) → Lawful ss → in_read s t ≡ true → read_most (standing_at ss (Contending Read i j) t s r) ≤ read_total ss → ltb (length r.bytes) 32 ≡ true
@@ -60,14 +59,14 @@ module _ (ss : Order) (law : Lawful ss) where
   by_standing Answered t b r x e a l u = answered_hears ss r b t x
   by_standing Waiting t b r x e a l u = waiting_any ss r b t x (some_segment ss law)
   by_standing (Contending Opening i j) t b r x e a l u = opening_hears ss r b i j l t x e
-  by_standing (Contending Address i j) t b r x e a l u = address_hears ss r b i j l t x e (fair_at ss law i).some a
+  by_standing (Contending Address i j) t b r x e a l u = address_hears ss r b i j l t x e (some_byte_at ss law i) a
   by_standing (Contending Write i j) t b r x e a l u =
-      let l1 = first (ltb i (length ss)) _ l in
-      let l2 = not_true _ (first _ _ (second (ltb i (length ss)) _ l)) in
+      let l1 = first_so (ltb i (length ss)) _ l in
+      let l2 = not-true _ (first_so _ _ (second_so (ltb i (length ss)) _ l)) in
       write_hears ss r b i j l1 l t x e l2 a
   by_standing (Contending Read i j) t b r x e a l u =
-      let l1 = first (ltb i (length ss)) _ l in
-      let l2 = first (reads (here ss i)) _ (second (ltb i (length ss)) _ l) in
+      let l1 = first_so (ltb i (length ss)) _ l in
+      let l2 = first_so (reads (here ss i)) _ (second_so (ltb i (length ss)) _ l) in
       read_hears ss r b i j l1 l (byte_room ss i j b.shift t r law e u) t x e l2
   by_standing (Contending Stopping i j) t b r x e a l u = stopping_hears ss r b i j t x e
 
@@ -111,13 +110,9 @@ module _ (ss : Order) (law : Lawful ss) where
   offers_write i j turn.ReadNinth b r e = absurd (clash e)
   offers_write i j turn.ClosingBorder b r e = absurd (clash e)
 
-  ninth_is : (j n : ℕ) (a : Bool) → ltb (j + 1) n ≡ a → cond a symbol.Zero symbol.One ≡ script.more (n - (j + 1))
-  ninth_is j n true e = let z = ltb-true (j + 1) n e in let q : n - (j + 1) ≡ suc (n - suc (suc j)) = omega arith in rw q refl
-  ninth_is j n false e = let z = ltb-false (j + 1) n e in let q : n - (j + 1) ≡ 0 = omega arith in rw q refl
-
   offers_read : (i j : ℕ) (t : Turn) (b : Block) (r : Known) → turned ss (Contending Read i j) b.shift t ≡ true → Offers (Contending Read i j) t b r
   offers_read i j (turn.Read n) b r e = refl
-  offers_read i j turn.ReadNinth b r e = ninth_is j (count (here ss i)) _ refl
+  offers_read i j turn.ReadNinth b r e = more_is j (count (here ss i)) _ refl
   offers_read i j turn.Free b r e = absurd (clash e)
   offers_read i j (turn.Address n) b r e = absurd (clash e)
   offers_read i j (turn.AddressNinth d) b r e = absurd (clash e)

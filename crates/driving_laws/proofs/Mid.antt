@@ -1,5 +1,7 @@
 -- A contender inside a byte. Assumes nothing.
-use Rattle.std.proofs.Common.{◌≡◌, ℕ, Bool, true, false, cond, not, ◌&&◌, ◌||◌, sym, refl, ap, ◌∙◌, subst}
+use Rattle.std.proofs.Common.{◌≡◌, ℕ, Bool, true, false, not, ◌&&◌, ◌||◌, sym, refl, ap, ◌∙◌, subst}
+use Rattle.std.proofs.lemmas.Bool.{cond-true}
+use Rattle.std.proofs.Math.Bool.{or-true}
 use borrow.Author.Tests.{clash}
 use Rattle.bus.specs.declared.Symbol.{Symbol}
 use Rattle.bus.specs.declared.Symbol.TheVariants as symbol
@@ -18,14 +20,6 @@ use Rattle.driving_laws.specs.Tied.{tied, phase_task}
 use Rattle.driving_laws.specs.Agreement.{Heard, Hears}
 use Rattle.driving_laws.proofs.Lost.{moved_goal}
 
-or_true : (c : Bool) → (c || true) ≡ true
-or_true true = refl
-or_true false = refl
-
-pub pick : {A : Type 0} (c : Bool) (x y : A) → c ≡ true → cond c x y ≡ x
-pick true x y e = refl
-pick false x y e = absurd (clash e)
-
 pub not_and : (c : Bool) → not (c && false) ≡ true
 not_and true = refl
 not_and false = refl
@@ -34,16 +28,8 @@ pub not_both : (c : Bool) → not (c && true) ≡ true → c ≡ false
 not_both true e = absurd (clash e)
 not_both false e = refl
 
-pub second : (c d : Bool) → (c && d) ≡ true → d ≡ true
-second true d e = e
-second false d e = absurd (clash e)
-
-pub both : (c d : Bool) → c ≡ true → d ≡ true → (c && d) ≡ true
-both true d e f = f
-both false d e f = absurd (clash e)
-
 pub moving : (m : Block) (k : Task) → m.task ≡ k → has_byte k ≡ true → byte_moves m ≡ true
-moving m k e f = ap (λ (v : Task). in_byte m.turn || has_byte v) e ∙ ap (λ (v : Bool). in_byte m.turn || v) f ∙ or_true (in_byte m.turn)
+moving m k e f = ap (λ (v : Task). in_byte m.turn || has_byte v) e ∙ ap (λ (v : Bool). in_byte m.turn || v) f ∙ or-true (in_byte m.turn)
 
 module _ (ss : Order) (r : Known) (b : Block) where
   abbrev R : Phase → ℕ → ℕ → Known
@@ -63,8 +49,8 @@ module _ (ss : Order) (r : Known) (b : Block) where
   mid_out p i j t x s gb gr z w =
       let m = moved_on (P p i j t) x in
       let c = starts (phase_task ss p i j) in
-      let er : heard_known ss c x (Contending p i j) m (R p i j) ≡ R p i j = pick m.status.msts0 _ _ s ∙ gr in
-      let eb : heard_block ss c x (Contending p i j) m ≡ m = pick m.status.msts0 _ _ s ∙ gb in
+      let er : heard_known ss c x (Contending p i j) m (R p i j) ≡ R p i j = cond-true m.status.msts0 _ _ s ∙ gr in
+      let eb : heard_block ss c x (Contending p i j) m ≡ m = cond-true m.status.msts0 _ _ s ∙ gb in
       let ef : loss_cleared x m ≡ m = rw z refl in
       moved_goal ss r b p i j t x
       (subst (λ (v : Block). Heard ss (R p i j) (P p i j t) x (heard_known ss c x (Contending p i j) m (R p i j)) (retried (heard_known ss c x (Contending p i j) m (R p i j)).standing (loss_cleared x v))) (sym eb)

@@ -1,5 +1,8 @@
 -- A contender in a byte that it reads. Assumes nothing.
-use Rattle.std.proofs.Common.{◌≡◌, ℕ, zero, suc, ◌+◌, ◌-◌, ◌*◌, ◌^◌, ◌<◌, ◌≤◌, Bool, true, false, ltb, [], ◌∷◌, ◌++◌, length, sym, refl, ap, ◌∙◌, subst, arith, pow_mono, ltb-false, ltb-true, lt-ltb}
+use Rattle.std.proofs.Common.{◌≡◌, ℕ, zero, suc, ◌+◌, ◌-◌, ◌*◌, ◌^◌, ◌<◌, ◌≤◌, Bool, true, false, ltb, [], ◌∷◌, ◌++◌, length, sym, refl, ap, ◌∙◌, subst, arith, pow_mono, ltb-true, lt-ltb}
+use Rattle.std.specs.Cmp.{first_so, second_so}
+use Rattle.std.proofs.lemmas.Bool.{cond-true}
+use Rattle.std.specs.Cmp.Derive.{both_true}
 use borrow.Author.Tests.{clash}
 use Rattle.bus.specs.declared.Symbol.{Symbol}
 use Rattle.bus.specs.declared.Symbol.TheVariants as symbol
@@ -29,10 +32,10 @@ use Rattle.driving_laws.specs.Meaning.{stage_at, progress_at}
 use native.Mathlib.Nat.{pow-succ'}
 use Rattle.driving_laws.specs.Agreement.{Hears}
 use Rattle.driving_laws.proofs.Quiet.{tie, contends}
-use Rattle.driving_laws.proofs.Lost.{lost_quiet, lost_out, first}
-use Rattle.driving_laws.proofs.Bits.{becomes_kept, becomes_lost, Kept, kept}
+use Rattle.driving_laws.proofs.Lost.{lost_quiet, lost_out}
+use Rattle.driving_laws.proofs.Bits.{more_is, becomes_kept, becomes_lost, Kept, kept}
 use Rattle.driving_laws.proofs.Resume.{resume_read, resume_read_past, resumed_hears}
-use Rattle.driving_laws.proofs.Mid.{pick, second, both, moving, mid_out}
+use Rattle.driving_laws.proofs.Mid.{moving, mid_out}
 use Rattle.driving.proofs.Fair.{value_le}
 
 module _ (ss : Order) (r : Known) (b : Block) where
@@ -57,7 +60,7 @@ module _ (ss : Order) (r : Known) (b : Block) where
 
     small : (n s : ℕ) → in_read s (turn.Read n) ≡ true → s < 128
     small n s e =
-        let f = ltb-true s (2 ^ (7 - n)) (second (ltb n 8) _ e) in
+        let f = ltb-true s (2 ^ (7 - n)) (second_so (ltb n 8) _ e) in
         let g : 2 ^ (7 - n) ≤ 2 ^ 7 = pow_mono {i = 7 - n} {j = 7} (omega arith) in
         omega arith
 
@@ -79,14 +82,14 @@ module _ (ss : Order) (r : Known) (b : Block) where
 
     grown : (n s : ℕ) (x : Symbol) → in_read s (turn.Read (suc n)) ≡ true → in_read (shifted s x) (turn.Read n) ≡ true
     grown n s x e =
-        let l = ltb-true (suc n) 8 (first (ltb (suc n) 8) _ e) in
+        let l = ltb-true (suc n) 8 (first_so (ltb (suc n) 8) _ e) in
         let m : ℕ = 7 - suc n in
-        let f = ltb-true s (2 ^ m) (second (ltb (suc n) 8) _ e) in
+        let f = ltb-true s (2 ^ m) (second_so (ltb (suc n) 8) _ e) in
         let y : 7 - n ≡ suc m = omega arith in
         let p : 2 ^ (7 - n) ≡ 2 * 2 ^ m = ap (λ (k : ℕ). 2 ^ k) y ∙ pow-succ' 2 m in
         let w = whole s x (small (suc n) s e) in
         let v = value_le x in
-        both (ltb n 8) _ (lt-ltb n 8 (omega arith)) (lt-ltb (shifted s x) (2 ^ (7 - n)) (omega arith))
+        both_true (lt-ltb n 8 (omega arith)) (lt-ltb (shifted s x) (2 ^ (7 - n)) (omega arith))
 
     turned_read : (n s : ℕ) (x : Symbol) → is_bit x ≡ true → in_read s (turn.Read n) ≡ true → in_read (shifted s x) (next (turn.Read n) x) ≡ true
     turned_read zero s symbol.Zero f e = refl
@@ -102,7 +105,7 @@ module _ (ss : Order) (r : Known) (b : Block) where
     read_bit n x e ib ns st K sh =
         let m = moved_on (P Read i j (turn.Read n)) x in
         let mv = moving m task.Receive K.task_kept refl in
-        mid_out ss r b Read i j (turn.Read n) x K.msts_kept (pick (byte_moves m) _ _ mv) (pick (byte_moves m) _ _ mv) ns
+        mid_out ss r b Read i j (turn.Read n) x K.msts_kept (cond-true (byte_moves m) _ _ mv) (cond-true (byte_moves m) _ _ mv) ns
         (record {
           sound = record { is_tied = tie ss (Contending Read i j) m refl K.task_kept K.msts_kept K.trc_kept; is_turned = ap (λ (z : ℕ). in_read z (next (turn.Read n) x)) sh ∙ turned_read n b.shift x ib e; is_unacked = refl; is_real = is-there };
           turn = refl;
@@ -115,13 +118,7 @@ module _ (ss : Order) (r : Known) (b : Block) where
     Ninth a x = Hears ss (R Read i j) (patched b turn.ReadNinth task.Receive a true false) x
 
     pushed_bytes : (z : ℕ) → pushed z r.bytes ≡ r.bytes ++ (z ∷ [])
-    pushed_bytes z = pick (ltb (length r.bytes) 32) _ _ room
-
-    more_zero : (n : ℕ) → ltb (j + 1) n ≡ true → script.more (n - (j + 1)) ≡ symbol.Zero
-    more_zero n e = let z = ltb-true (j + 1) n e in let q : n - (j + 1) ≡ suc (n - suc (suc j)) = omega arith in rw q refl
-
-    more_one : (n : ℕ) → ltb (j + 1) n ≡ false → script.more (n - (j + 1)) ≡ symbol.One
-    more_one n e = let z = ltb-false (j + 1) n e in let q : n - (j + 1) ≡ 0 = omega arith in rw q refl
+    pushed_bytes z = cond-true (ltb (length r.bytes) 32) _ _ room
 
     -- what the read byte leaves to do
     read_on : (n : ℕ) (x y : Symbol) (k : masters.Contender) → is_stop x ≡ false
@@ -137,14 +134,14 @@ module _ (ss : Order) (r : Known) (b : Block) where
         let B = patched b turn.ReadNinth task.Receive true true false in
         resumed_hears ss (R Read i j) (with_byte (R Read i j) b.shift) B symbol.Zero (turn.Read 7) _ _ _
         (resume_read ss (moved_on B symbol.Zero) true i here-is false (j + 1) a' n e f refl) refl refl
-        (read_on n symbol.Zero (script.more (n - (j + 1))) _ refl refl (rw e refl) (keeps turn.ReadNinth symbol.Zero (script.offer (todo_at ss i (stage.ReadNinth j)))) (rw e (ap (λ (y : Symbol). same y symbol.Zero) (more_zero n f))))
+        (read_on n symbol.Zero (script.more (n - (j + 1))) _ refl refl (rw e refl) (keeps turn.ReadNinth symbol.Zero (script.offer (todo_at ss i (stage.ReadNinth j)))) (rw e (ap (λ (y : Symbol). same y symbol.Zero) (sym (more_is j n true f)))))
 
     ninth_last : (a' n : ℕ) → here ss i ≡ reading a' n → ltb (j + 1) n ≡ false → Ninth false symbol.One
     ninth_last a' n e f =
         let B = patched b turn.ReadNinth task.Receive false true false in
         resumed_hears ss (R Read i j) (with_byte (R Read i j) b.shift) B symbol.One turn.ClosingBorder _ _ _
         (resume_read_past ss (moved_on B symbol.One) false i here-is false (j + 1) a' n e f) refl refl
-        (read_on n symbol.One (script.more (n - (j + 1))) _ refl refl (rw e refl) (keeps turn.ReadNinth symbol.One (script.offer (todo_at ss i (stage.ReadNinth j)))) (rw e (ap (λ (y : Symbol). same y symbol.One) (more_one n f))))
+        (read_on n symbol.One (script.more (n - (j + 1))) _ refl refl (rw e refl) (keeps turn.ReadNinth symbol.One (script.offer (todo_at ss i (stage.ReadNinth j)))) (rw e (ap (λ (y : Symbol). same y symbol.One) (sym (more_is j n false f)))))
 
     ninth_lost : (a : Bool) (x y : Symbol) → loss (patched b turn.ReadNinth task.Receive a true false) x ≡ true → script.more (count (here ss i) - (j + 1)) ≡ y → same y x ≡ false → ltb (j + 1) (count (here ss i)) ≡ a → Goal Read i j turn.ReadNinth x
     ninth_lost a x y l m k e = read_upset turn.ReadNinth x (ap (λ (c : Bool). loss (patched b turn.ReadNinth task.Receive c true false) x) e ∙ l) (ap (λ (v : Symbol). same v x) m ∙ k)
@@ -152,13 +149,13 @@ module _ (ss : Order) (r : Known) (b : Block) where
     ninth_at : (s : Segment) → here ss i ≡ s → reads s ≡ true → (a : Bool) → ltb (j + 1) (count s) ≡ a → (x : Symbol) → Goal Read i j turn.ReadNinth x
     ninth_at (writing a' bs) e g a f x = absurd (clash g)
     ninth_at (reading a' n) e g true f symbol.Zero = subst (λ (c : Bool). Ninth c symbol.Zero) (sym (rw e f)) (ninth_more a' n e f)
-    ninth_at (reading a' n) e g true f symbol.Stop = ninth_lost true symbol.Stop symbol.Zero refl (rw e (more_zero n f)) refl (rw e f)
-    ninth_at (reading a' n) e g true f symbol.Start = ninth_lost true symbol.Start symbol.Zero refl (rw e (more_zero n f)) refl (rw e f)
-    ninth_at (reading a' n) e g true f symbol.One = ninth_lost true symbol.One symbol.Zero refl (rw e (more_zero n f)) refl (rw e f)
+    ninth_at (reading a' n) e g true f symbol.Stop = ninth_lost true symbol.Stop symbol.Zero refl (rw e (sym (more_is j n true f))) refl (rw e f)
+    ninth_at (reading a' n) e g true f symbol.Start = ninth_lost true symbol.Start symbol.Zero refl (rw e (sym (more_is j n true f))) refl (rw e f)
+    ninth_at (reading a' n) e g true f symbol.One = ninth_lost true symbol.One symbol.Zero refl (rw e (sym (more_is j n true f))) refl (rw e f)
     ninth_at (reading a' n) e g false f symbol.One = subst (λ (c : Bool). Ninth c symbol.One) (sym (rw e f)) (ninth_last a' n e f)
-    ninth_at (reading a' n) e g false f symbol.Stop = ninth_lost false symbol.Stop symbol.One refl (rw e (more_one n f)) refl (rw e f)
-    ninth_at (reading a' n) e g false f symbol.Start = ninth_lost false symbol.Start symbol.One refl (rw e (more_one n f)) refl (rw e f)
-    ninth_at (reading a' n) e g false f symbol.Zero = ninth_lost false symbol.Zero symbol.One refl (rw e (more_one n f)) refl (rw e f)
+    ninth_at (reading a' n) e g false f symbol.Stop = ninth_lost false symbol.Stop symbol.One refl (rw e (sym (more_is j n false f))) refl (rw e f)
+    ninth_at (reading a' n) e g false f symbol.Start = ninth_lost false symbol.Start symbol.One refl (rw e (sym (more_is j n false f))) refl (rw e f)
+    ninth_at (reading a' n) e g false f symbol.Zero = ninth_lost false symbol.Zero symbol.One refl (rw e (sym (more_is j n false f))) refl (rw e f)
 
     pub read_hears : (t : Turn) (x : Symbol) → in_read b.shift t ≡ true → reads (here ss i) ≡ true → Goal Read i j t x
     read_hears (turn.Read n) symbol.Zero e g = read_bit n symbol.Zero e refl refl refl (kept b (turn.Read n) task.Receive _ false symbol.Zero refl refl refl refl refl refl) refl

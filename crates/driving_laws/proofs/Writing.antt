@@ -1,5 +1,6 @@
 -- A contender in a byte that it writes. Assumes nothing.
 use Rattle.std.proofs.Common.{◌≡◌, ℕ, zero, suc, ◌+◌, ◌/◌, ◌^◌, Bool, true, false, cond, not, ◌&&◌, ltb, List, length, get_or, sym, refl, ap, ◌∙◌, subst, arith, ltb-true, lt-ltb}
+use Rattle.std.proofs.lemmas.Bool.{cond-true, not-true}
 use borrow.Author.Tests.{clash}
 use Rattle.bus.specs.declared.Symbol.{Symbol}
 use Rattle.bus.specs.declared.Symbol.TheVariants as symbol
@@ -27,10 +28,10 @@ use Rattle.driving_laws.specs.Tied.{in_write, tied, turned, real, unacked}
 use Rattle.driving_laws.specs.Meaning.{progress_at, write_stage}
 use Rattle.driving_laws.specs.Agreement.{Heard, Hears}
 use Rattle.driving_laws.proofs.Quiet.{tie, contends, noted}
-use Rattle.driving_laws.proofs.Lost.{lost_quiet, lost_out, not_true}
+use Rattle.driving_laws.proofs.Lost.{lost_quiet, lost_out}
 use Rattle.driving_laws.proofs.Bits.{same_as, plain, becomes_kept, becomes_lost, Kept, kept}
 use Rattle.driving_laws.proofs.Resume.{resume_write, resumed_hears}
-use Rattle.driving_laws.proofs.Mid.{pick, not_and, moving, mid_out}
+use Rattle.driving_laws.proofs.Mid.{not_and, moving, mid_out}
 
 module _ (ss : Order) (r : Known) (b : Block) where
   abbrev R : Phase → ℕ → ℕ → Known
@@ -74,8 +75,8 @@ module _ (ss : Order) (r : Known) (b : Block) where
     write_kept t n x e nn os own f ib ns st K tu ua =
         let m = moved_on (P Write i j t) x in
         let mv = moving m (task.Send v) K.task_kept refl in
-        let kp : keeps t x (script.offer (todo_at ss i (write_stage j t))) ≡ true = pick (masters_slot t) _ _ os ∙ same_as _ _ x own ∙ f in
-        mid_out ss r b Write i j t x K.msts_kept (pick (byte_moves m) _ _ mv) (pick (byte_moves m) _ _ mv) ns
+        let kp : keeps t x (script.offer (todo_at ss i (write_stage j t))) ≡ true = cond-true (masters_slot t) _ _ os ∙ same_as _ _ x own ∙ f in
+        mid_out ss r b Write i j t x K.msts_kept (cond-true (byte_moves m) _ _ mv) (cond-true (byte_moves m) _ _ mv) ns
         (record {
           sound = record { is_tied = tie ss (Contending Write i j) m refl K.task_kept K.msts_kept K.trc_kept; is_turned = tu; is_unacked = ua; is_real = is-there };
           turn = refl;
@@ -135,7 +136,7 @@ module _ (ss : Order) (r : Known) (b : Block) where
     refused_at = record { sound = record { is_tied = refl; is_turned = refl; is_unacked = refl; is_real = refl }; turn = refl; standing = refl; clears = λ z. absurd (clash z) }
 
     write_refused : not b.status.ackd0 ≡ true → Goal Write i j turn.WriteNinth symbol.One
-    write_refused e = subst (λ (c : Bool). Refused c) (sym (not_true b.status.ackd0 e)) refused_at
+    write_refused e = subst (λ (c : Bool). Refused c) (sym (not-true b.status.ackd0 e)) refused_at
 
     write_taken : (s : Segment) → here ss i ≡ s → reads s ≡ false → Goal Write i j turn.WriteNinth symbol.Zero
     write_taken (reading a n) e g = absurd (clash (sym g))
