@@ -1,15 +1,14 @@
-// A register master as a bank of one.
-ghost use Rattle.bus.specs.Banks.{Single};
+// A register master as one of a bank. Programs call its own methods too, so each is named again here.
 ghost use Rattle.driver.specs.Driver.{master_of};
 
 use crate::Driver;
 use bus::Symbol;
-use masters::Masters;
+use masters::Master;
 use orders::{Answer, Order};
 use refusals::Refusal;
 
-impl Masters for Driver {
-    ghost bank = { λ d. Single (master_of d) };
+impl Master for Driver {
+    ghost master = { master_of };
 
     fn offer(&self) -> Symbol {
         self.offer()
@@ -27,28 +26,15 @@ impl Masters for Driver {
         self.waits()
     }
 
-    fn past(&self, number: usize) -> Option<usize> {
-        number.checked_sub(1)
-    }
-
-    fn place(&mut self, number: usize, order: Order) -> Result<(), Refusal> {
-        if number != 0 {
-            return Err(Refusal::NoSuchNumber);
-        }
+    fn place(&mut self, order: Order) -> Result<(), Refusal> {
         self.place(order)
     }
 
-    fn withdraw(&mut self, number: usize) -> Result<(), Refusal> {
-        if number != 0 {
-            return Err(Refusal::NoSuchNumber);
-        }
+    fn withdraw(&mut self) -> Result<(), Refusal> {
         self.withdraw()
     }
 
-    fn collect(&mut self, number: usize, buffer: &mut [u8]) -> Result<Answer, Refusal> {
-        if number != 0 {
-            return Err(Refusal::NoSuchNumber);
-        }
+    fn collect(&mut self, buffer: &mut [u8]) -> Result<Answer, Refusal> {
         self.collect(buffer)
     }
 }

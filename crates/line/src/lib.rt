@@ -61,7 +61,7 @@ impl Contender {
         ensures { result ≡ keeps_in turn carried (offer_of (contender_of self.now).progress.todo) }
     {
         if turn.is_masters() {
-            self.progress.offer().rank() == carried.rank()
+            self.progress.offer() == carried
         } else {
             carried.is_bit()
         }
@@ -73,7 +73,7 @@ impl Contender {
     {
         Request {
             order: self.progress.order(),
-            losses: (self.losses.min(998)) + 1,
+            losses: self.losses.min(998) + 1,
         }
     }
 
@@ -123,10 +123,8 @@ impl Line {
     pub fn offer(&self) -> Symbol
         ensures { result ≡ master.offers (master_of self.now) }
     {
-        match self.contender() {
-            Some(contender) => contender.progress.offer(),
-            None => Symbol::One,
-        }
+        self.contender()
+            .map_or(Symbol::One, |contender| contender.progress.offer())
     }
 
     // A slot carries the symbol.
@@ -143,10 +141,10 @@ impl Line {
     pub fn waits(&self) -> bool
         ensures { result ≡ is_waiting (master_of self.now).standing }
     {
-        match self.standing {
-            Standing::Waiting(_) | Standing::Contending(_) => true,
-            Standing::Idle | Standing::Answered(_) => false,
-        }
+        matches!(
+            self.standing,
+            Standing::Waiting(_) | Standing::Contending(_)
+        )
     }
 
     // Gives an idle master an order.

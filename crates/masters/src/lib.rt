@@ -1,19 +1,58 @@
 // Masters by their meaning, and banks of them.
 #![tactic(auto)]
 
-ghost use Rattle.std.specs.Prelude.{◌≡◌, length};
-ghost use Rattle.bus.specs.Banks.{Bank, Both, each, beyond};
+ghost use Rattle.std.specs.Prelude.{◌≡◌, ◌==◌, if◌then◌else◌, Ok, Err, length};
+ghost use Rattle.bus.specs.Banks.{Bank, Single, Both, each, beyond};
 ghost use Rattle.orders.specs.Fills.{order_of};
-ghost use Rattle.masters.specs.Master.{Master, offered, heard, freed, somebody_waits, place_answer, place, withdraw_answer, withdraw, collect_answer, collect, collect_into};
+ghost use Rattle.masters.specs.Standings.{is_waiting};
+ghost use Rattle.masters.specs.Master as model;
+ghost use Rattle.masters.specs.Master.{offered, heard, freed, somebody_waits, place_answer, place, withdraw_answer, withdraw, collect_answer, collect, collect_into};
 
 use bus::{Pair, Symbol};
 use orders::{Answer, Order};
 use refusals::Refusal;
 
-// One master or several on a bus. Any make that keeps this meaning may contend.
+// One master. Any make that keeps this meaning may contend.
+pub trait Master {
+    ghost master: { Self → model.Master };
+
+    // What goes onto the wires in the next slot.
+    fn offer(&self) -> Symbol
+        ensures { result ≡ model.offers (master self.now) };
+
+    // A slot carries the symbol.
+    fn hear(&mut self, carried: Symbol)
+        ensures { master self.new ≡ heard carried (master self.old) };
+
+    // Makes it idle on a free bus, as at assembly.
+    fn free(&mut self)
+        ensures { master self.new ≡ freed (master self.old) };
+
+    // Whether an order waits; a contender counts as waiting.
+    fn waits(&self) -> bool
+        ensures { result ≡ is_waiting (master self.now).standing };
+
+    // Gives it an order, if it is idle.
+    fn place(&mut self, order: Order) -> Result<(), Refusal>
+        ensures answer { result ≡ model.place_one (master self.old).standing }
+        ensures after { master self.new ≡ model.placing (order_of order) (master self.old) };
+
+    // Makes it idle, if it waits on a free bus.
+    fn withdraw(&mut self) -> Result<(), Refusal>
+        ensures answer { result ≡ model.withdraw_one (master self.old).turn (master self.old).standing }
+        ensures after { master self.new ≡ model.withdrawing (master self.old) };
+
+    // Hands over its answer and makes it idle; the bytes read go to the front of the buffer.
+    fn collect(&mut self, buffer: &mut [u8]) -> Result<Answer, Refusal>
+        ensures answer { result ≡ model.collect_one (length buffer.old) (master self.old).standing }
+        ensures bytes { buffer.new ≡ model.filled buffer.old (master self.old).standing }
+        ensures after { master self.new ≡ model.collecting (length buffer.old) (master self.old) };
+}
+
+// One master or several on a bus. What slaves do too has no trait of its own in `bus`: no crate may implement another's trait for every T: Master.
 pub trait Masters {
     // what each master means, by its number
-    ghost bank: { Self → Bank Master };
+    ghost bank: { Self → Bank model.Master };
 
     // What goes onto the wires in the next slot.
     fn offer(&self) -> Symbol
@@ -50,6 +89,56 @@ pub trait Masters {
         ensures answer { result ≡ collect_answer number (length buffer.old) (bank self.old) }
         ensures bytes { buffer.new ≡ collect_into number buffer.old (bank self.old) }
         ensures after { bank self.new ≡ collect number (length buffer.old) (bank self.old) };
+}
+
+// Of a single master the number is 0.
+fn only(number: usize) -> Result<(), Refusal>
+    ensures { result ≡ (if number == 0 then Ok tt else Err Refusal.NoSuchNumber) }
+{
+    match number {
+        0 => Ok(()),
+        _ => Err(Refusal::NoSuchNumber),
+    }
+}
+
+// Each master is a bank of one.
+impl<M: Master> Masters for M {
+    ghost bank = { λ m. Single (M.Master.master m) };
+
+    fn offer(&self) -> Symbol {
+        Master::offer(self)
+    }
+
+    fn hear(&mut self, carried: Symbol) {
+        Master::hear(self, carried);
+    }
+
+    fn free(&mut self) {
+        Master::free(self);
+    }
+
+    fn waits(&self) -> bool {
+        Master::waits(self)
+    }
+
+    fn past(&self, number: usize) -> Option<usize> {
+        number.checked_sub(1)
+    }
+
+    fn place(&mut self, number: usize, order: Order) -> Result<(), Refusal> {
+        only(number)?;
+        Master::place(self, order)
+    }
+
+    fn withdraw(&mut self, number: usize) -> Result<(), Refusal> {
+        only(number)?;
+        Master::withdraw(self)
+    }
+
+    fn collect(&mut self, number: usize, buffer: &mut [u8]) -> Result<Answer, Refusal> {
+        only(number)?;
+        Master::collect(self, buffer)
+    }
 }
 
 impl<A: Masters, B: Masters> Masters for Pair<A, B> {
