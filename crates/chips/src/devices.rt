@@ -1,9 +1,24 @@
 // What a gauge and a memory make of the bytes that go by.
+ghost use Rattle.std.specs.Prelude.{◌≡◌, Ok, Err, is_ok, length, if◌then◌else◌, nat_lt, slice_set};
+ghost use Rattle.refusals.specs.declared.Refusal.TheVariants.{NoSuchPlace};
 ghost use Rattle.chips.specs.Rules.{gauge, memory};
 ghost use Rattle.chips.specs.Parts.{registers_of, cells_of};
 
 use crate::Device;
 use crate::parts::{Cells, Registers};
+use refusals::Refusal;
+
+// Sets the byte at a place, if there is one. By get_mut no proof would know the bytes afterwards.
+fn put(bytes: &mut [u8], place: usize, byte: u8) -> Result<(), Refusal>
+    ensures answer { result ≡ (if nat_lt place (length bytes.old) then Ok tt else Err NoSuchPlace) }
+    ensures after { bytes.new ≡ (if is_ok result then slice_set bytes.old place byte else bytes.old) }
+{
+    if place >= bytes.len() {
+        return Err(Refusal::NoSuchPlace);
+    }
+    bytes[place] = byte;
+    Ok(())
+}
 
 impl Device for Registers {
     ghost rule = { gauge };
@@ -28,12 +43,8 @@ impl Device for Registers {
         self.pointer = (self.pointer + 1) % 4;
     }
 
-    fn set(&mut self, place: usize, byte: u8) -> bool {
-        if place >= self.registers.len() {
-            return false;
-        }
-        self.registers[place] = byte;
-        true
+    fn set(&mut self, place: usize, byte: u8) -> Result<(), Refusal> {
+        put(&mut self.registers, place, byte)
     }
 }
 
@@ -63,11 +74,7 @@ impl Device for Cells {
         self.place = self.place.wrapping_add(1);
     }
 
-    fn set(&mut self, place: usize, byte: u8) -> bool {
-        if place >= self.cells.len() {
-            return false;
-        }
-        self.cells[place] = byte;
-        true
+    fn set(&mut self, place: usize, byte: u8) -> Result<(), Refusal> {
+        put(&mut self.cells, place, byte)
     }
 }

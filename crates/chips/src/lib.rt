@@ -1,7 +1,8 @@
 // Slaves that are built: a gauge and a memory, over one machinery of address and bytes.
 #![tactic(auto)]
 
-ghost use Rattle.std.specs.Prelude.{◌≡◌, Bool, length, if◌then◌else◌, nat_lt, slice_index};
+ghost use Rattle.std.specs.Prelude.{◌≡◌, Ok, Err, is_ok, length, if◌then◌else◌, nat_lt, slice_index};
+ghost use Rattle.refusals.specs.declared.Refusal.TheVariants.{NoSuchPlace};
 ghost use Rattle.chips.specs.Store.{Store, Rule, stored};
 
 mod devices;
@@ -11,6 +12,7 @@ mod wiring;
 
 use parts::Plug;
 pub use parts::{Cells, Registers};
+use refusals::Refusal;
 
 // What stands behind an address: bytes with a place among them.
 pub trait Device {
@@ -34,10 +36,10 @@ pub trait Device {
     fn sent(&mut self)
         ensures { store self.new ≡ rule.sent (store self.old) };
 
-    // Sets the byte at a place; whether there is one.
-    fn set(&mut self, place: usize, byte: u8) -> bool
-        ensures answer { result ≡ nat_lt place (length (store self.old).bytes) }
-        ensures after { store self.new ≡ (if result then stored place byte (store self.old) else store self.old) };
+    // Sets the byte at a place, if there is one.
+    fn set(&mut self, place: usize, byte: u8) -> Result<(), Refusal>
+        ensures answer { result ≡ (if nat_lt place (length (store self.old).bytes) then Ok tt else Err NoSuchPlace) }
+        ensures after { store self.new ≡ (if is_ok result then stored place byte (store self.old) else store self.old) };
 }
 
 // A slave with a seven-bit address over a device.

@@ -1,8 +1,7 @@
 // Making a gauge or a memory.
-ghost use Rattle.std.specs.Prelude.{◌≡◌, List, replicate, MatchResult};
-ghost use Rattle.refusals.specs.Numbers.{number};
+ghost use Rattle.std.specs.Prelude.{List, replicate};
 ghost use Rattle.chips.specs.Parts.{registers_of, cells_of};
-ghost use Rattle.chips.specs.States.{chip_of, made, making};
+ghost use Rattle.chips.specs.States.{IsMade};
 
 use crate::parts::{Cells, Plug, Registers};
 use crate::{Chip, Device, Gauge, Memory};
@@ -11,13 +10,13 @@ use refusals::Refusal;
 
 // A chip at an address of 8 to 119, on a free bus.
 fn make<D: Device + Drop>(address: u16, device: D) -> Result<Chip<D>, Refusal>
-    ensures { MatchResult result (λ c. (making address ≡ 0) × (chip_of D.Device.store c ≡ made address (D.Device.store device))) (λ e. making address ≡ number e) }
+    ensures { IsMade D.Device.store address (D.Device.store device) result }
 {
-    if address < 8 || address > 119 {
+    let Ok(address @ 8..=119) = u8::try_from(address) else {
         return Err(Refusal::BadAddress);
-    }
+    };
     let plug = Plug {
-        address: address as u8,
+        address,
         turn: Turn::Free,
         addressed: false,
         fresh: true,
@@ -29,7 +28,7 @@ fn make<D: Device + Drop>(address: u16, device: D) -> Result<Chip<D>, Refusal>
 impl Chip<Registers> {
     // A gauge with these registers, its pointer at 0.
     pub fn new(address: u16, registers: [u8; 4]) -> Result<Gauge, Refusal>
-        ensures { MatchResult result (λ c. (making address ≡ 0) × (chip_of registers_of c ≡ made address (record { bytes = registers; place = 0 }))) (λ e. making address ≡ number e) }
+        ensures { IsMade registers_of address (record { bytes = registers; place = 0 }) result }
     {
         make(
             address,
@@ -44,7 +43,7 @@ impl Chip<Registers> {
 impl Chip<Cells> {
     // A memory whose cells are all 0, its place at 0.
     pub fn new(address: u16) -> Result<Memory, Refusal>
-        ensures { MatchResult result (λ c. (making address ≡ 0) × (chip_of cells_of c ≡ made address (record { bytes = replicate 256 0; place = 0 }))) (λ e. making address ≡ number e) }
+        ensures { IsMade cells_of address (record { bytes = replicate 256 0; place = 0 }) result }
     {
         make(
             address,

@@ -75,13 +75,7 @@ impl<D: Device> Chip<D> {
             Turn::WriteNinth => acknowledge(
                 self.plug.addressed && self.device.accepts(self.plug.fresh, self.plug.bits),
             ),
-            Turn::Read(n) => {
-                if self.plug.addressed {
-                    Symbol::of_bit(self.device.byte(), n)
-                } else {
-                    Symbol::One
-                }
-            }
+            Turn::Read(n) if self.plug.addressed => Symbol::of_bit(self.device.byte(), n),
             _ => Symbol::One,
         }
     }
@@ -139,10 +133,6 @@ impl<D: Device> Slaves for Chip<D> {
         if self.plug.turn.is_busy() {
             return Err(Refusal::BusNotFree);
         }
-        if self.device.set(place, byte) {
-            Ok(())
-        } else {
-            Err(Refusal::NoSuchPlace)
-        }
+        self.device.set(place, byte)
     }
 }
