@@ -34,7 +34,7 @@ impl Device for Registers {
     }
 
     fn write(&mut self, first: bool, byte: u8) {
-        if first && byte < 4 {
+        if self.accepts(first, byte) {
             self.pointer = byte;
         }
     }
@@ -66,7 +66,7 @@ impl Device for Cells {
             self.place = byte;
         } else {
             self.cells[self.place as usize] = byte;
-            self.place = self.place.wrapping_add(1);
+            self.sent();
         }
     }
 
