@@ -1,8 +1,9 @@
 // How the parts of the bus are printed.
 ghost use Rattle.std.specs.Prelude.{Some};
-ghost use Rattle.bus.specs.Texts.{letter, level_word, direction_word};
+ghost use Rattle.bus.specs.Texts.{letter, level_word, direction_word, no_symbol};
 
-use crate::{Direction, Level, Symbol};
+use crate::{Direction, Level, NoSymbol, Symbol};
+use std::error::Error;
 use std::fmt;
 
 // The letter of UM10204's drawings: 0, P, S or 1.
@@ -40,3 +41,13 @@ impl fmt::Display for Direction {
         })
     }
 }
+
+impl fmt::Display for NoSymbol {
+    ghost output = { λ e. Some (no_symbol e) };
+
+    fn fmt<W: fmt::Write>(&self, f: &mut fmt::Formatter<W>) -> fmt::Result {
+        write!(f, "no symbol has rank {}", self.rank)
+    }
+}
+
+impl Error for NoSymbol {}

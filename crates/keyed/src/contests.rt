@@ -139,7 +139,7 @@ fn contest<M: Masters>(
     for _ in 0..329 {
         let rank = bench.step();
         write!(text, "{rank} ")?;
-        if let Some(symbol) = Symbol::of_rank(rank) {
+        if let Ok(symbol) = Symbol::try_from(rank) {
             turn = turn.next(symbol);
         }
         if !turn.is_busy() {

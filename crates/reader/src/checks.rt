@@ -11,7 +11,7 @@ use refusals::Refusal;
 fn follow(turn: Turn, rank: u8) -> Option<Turn>
     ensures { MatchOption result (Against turn rank) (λ u. Leads turn rank u) }
 {
-    let symbol = Symbol::of_rank(rank)?;
+    let symbol = Symbol::try_from(rank).ok()?;
     turn.allows(symbol).then(|| turn.next(symbol))
 }
 
@@ -23,12 +23,8 @@ pub fn check(slots: &[u8]) -> Result<(), Refusal>
     let mut turn = Turn::Free;
     let mut left = slots;
     while let [first, rest @ ..] = left {
-        let Some(next) = follow(turn, *first) else {
-            return Err(Refusal::AgainstTurns {
-                place: slots.len() - left.len(),
-            });
-        };
-        turn = next;
+        let place = slots.len() - left.len();
+        turn = follow(turn, *first).ok_or(Refusal::AgainstTurns { place })?;
         left = rest;
     }
     if turn.is_busy() {

@@ -20,10 +20,7 @@ fn run<M: Masters>(
     let marks = book.close();
     moved?;
     for rank in places.iter().take(marks) {
-        match Symbol::of_rank(*rank) {
-            Some(symbol) => write!(text, "{symbol}")?,
-            None => write!(text, "?")?,
-        }
+        write!(text, "{}", Symbol::try_from(*rank)?)?;
     }
     Ok(())
 }

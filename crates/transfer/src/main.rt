@@ -52,10 +52,9 @@ fn follow(
     for number in 1..=LONGEST {
         let rank = bench.step();
         record.push(rank)?;
-        if let Some(symbol) = Symbol::of_rank(rank) {
-            print_slot(rt, number, symbol, turn)?;
-            turn = turn.next(symbol);
-        }
+        let symbol = Symbol::try_from(rank)?;
+        print_slot(rt, number, symbol, turn)?;
+        turn = turn.next(symbol);
         if !turn.is_busy() {
             break;
         }

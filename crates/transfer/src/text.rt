@@ -42,11 +42,11 @@ pub fn print_slot(rt: &impl Print, number: usize, symbol: Symbol, turn: Turn) ->
 
 // SDA over a slot: as SCL rises, then in the early and in the late half of its high time.
 fn wave(rank: u8) -> &'static str {
-    match Symbol::of_rank(rank) {
-        Some(Symbol::Zero) | None => "___",
-        Some(Symbol::Stop) => "__-",
-        Some(Symbol::Start) => "--_",
-        Some(Symbol::One) => "---",
+    match Symbol::try_from(rank) {
+        Ok(Symbol::Zero) | Err(_) => "___",
+        Ok(Symbol::Stop) => "__-",
+        Ok(Symbol::Start) => "--_",
+        Ok(Symbol::One) => "---",
     }
 }
 
