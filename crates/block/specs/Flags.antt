@@ -9,10 +9,10 @@
 --     flags_after      the table for a slot that carries the symbol
 --     status_after     the status after it: IICE0 = 0 holds all eight at 0
 --     status_written   the table for a word written into IICC0, which sets none
-use Rattle.std.specs.Prelude.{ℕ, ◌+◌, ◌*◌, ◌/◌, ◌%◌, Bool, true, false, cond, not, ◌&&◌, ◌||◌, ◌==◌, nat_lt}
+use Rattle.std.specs.Prelude.{ℕ, ◌/◌, Bool, true, false, cond, not, ◌&&◌, ◌||◌, ◌==◌, nat_lt}
 use Rattle.bus.specs.declared.Symbol.{Symbol}
 use Rattle.bus.specs.declared.Symbol.TheVariants.{Zero, Stop, Start}
-use Rattle.bus.specs.Symbols.{is_bit, value}
+use Rattle.bus.specs.Symbols.{is_bit, shifted}
 use Rattle.bus.specs.Turns.{masters_slot}
 use Rattle.block.specs.declared.Block.{Block}
 use Rattle.block.specs.declared.Status.{Status}
@@ -31,10 +31,6 @@ own_write_ninth b x = is_bit x && (b.status.msts0 && after_write b.turn)
 
 abbrev pub own_read_ninth : Block → Symbol → Bool
 own_read_ninth b x = is_bit x && (b.status.msts0 && after_read b.turn)
-
--- the bits of the byte, with the one of this slot
-abbrev pub shifted : ℕ → Symbol → ℕ
-shifted s x = (2 * s + value x) % 256
 
 -- an address byte whose top four bits are 0000 or 1111
 abbrev pub is_extension : ℕ → Bool

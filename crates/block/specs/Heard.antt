@@ -7,14 +7,14 @@
 use Rattle.std.specs.Prelude.{ℕ, Bool, cond, not, ◌&&◌}
 use Rattle.bus.specs.declared.Symbol.{Symbol}
 use Rattle.bus.specs.declared.Symbol.TheVariants.{One}
-use Rattle.bus.specs.Symbols.{is_bit}
+use Rattle.bus.specs.Symbols.{is_bit, shifted}
 use Rattle.bus.specs.Turns.{next, busy}
 use Rattle.block.specs.declared.Block.{Block}
 use Rattle.block.specs.declared.Task.{Task}
 use Rattle.block.specs.declared.Task.TheVariants as task
 use Rattle.block.specs.Slots.{same, is_ninth}
 use Rattle.block.specs.Tasks.{waits}
-use Rattle.block.specs.Flags.{own_start, loss, shifted, status_after}
+use Rattle.block.specs.Flags.{own_start, loss, status_after}
 
 abbrev pub stands_on : Block → Symbol → Bool
 stands_on b x = same x One && waits b.task

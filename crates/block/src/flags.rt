@@ -1,6 +1,6 @@
 // The flags of IICSE0 after a slot, one by one: each has a condition of its own that sets it, and one that clears it.
 ghost use Rattle.std.specs.Prelude.{◌≡◌};
-ghost use Rattle.block.specs.Flags.{own_start, loss, shifted as shifted_of, is_extension, flag as flag_of, flags_after, no_flags, status_after};
+ghost use Rattle.block.specs.Flags.{own_start, loss, is_extension, flag as flag_of, flags_after, no_flags, status_after};
 
 use crate::slots::{
     AFTER_READ, AFTER_WRITE, EIGHTH_OF_ADDRESS, FIRST_OF_ADDRESS, is_first_of_data, is_ninth,
@@ -13,13 +13,6 @@ pub(crate) fn flag(set: bool, clear: bool, before: bool) -> bool
     ensures { result ≡ flag_of set clear before }
 {
     set || (before && !clear)
-}
-
-// The bits of a byte, with one more.
-pub(crate) fn shifted(bits: u8, bit: Symbol) -> u8
-    ensures { result ≡ shifted_of bits bit }
-{
-    ((2 * bits as u16 + bit.value() as u16) % 256) as u8
 }
 
 // Whether the top four bits of an address byte are 0000 or 1111.
@@ -64,7 +57,7 @@ impl Block {
     {
         let set = x.is_bit()
             && self.turn == EIGHTH_OF_ADDRESS
-            && is_extension(shifted(self.shift, x));
+            && is_extension(x.shifted_into(self.shift));
         let clear = x == Symbol::Start || x == Symbol::Stop;
         flag(set, clear, self.status.exc0)
     }
@@ -74,7 +67,7 @@ impl Block {
     {
         let set = x.is_bit()
             && self.turn == EIGHTH_OF_ADDRESS
-            && shifted(self.shift, x) / 2 == self.sva0 / 2;
+            && x.shifted_into(self.shift) / 2 == self.sva0 / 2;
         let clear = x == Symbol::Start || x == Symbol::Stop;
         flag(set, clear, self.status.coi0)
     }

@@ -3,7 +3,6 @@ ghost use Rattle.std.specs.Prelude.{◌≡◌};
 ghost use Rattle.block.specs.Tasks.{offers, contest_offer};
 ghost use Rattle.block.specs.Heard.{task_after, shift_after, heard as heard_of};
 
-use crate::flags::shifted;
 use crate::slots::{is_ninth, place};
 use crate::{Block, Task};
 use bus::Symbol;
@@ -74,7 +73,7 @@ impl Block {
         ensures { result ≡ shift_after self.now x }
     {
         if x.is_bit() && self.turn.is_busy() && !is_ninth(self.turn) {
-            shifted(self.shift, x)
+            x.shifted_into(self.shift)
         } else {
             0
         }

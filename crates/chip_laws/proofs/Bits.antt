@@ -4,8 +4,7 @@ use lib.Pow.{shr_le}
 use borrow.Author.Tests.{eqb-false}
 use Rattle.scripts.proofs.Framing.{bit_split}
 use Rattle.bus.specs.declared.Symbol.TheVariants.{Zero, One}
-use Rattle.bus.specs.Symbols.{bit, value}
-use Rattle.chips.specs.Chips.{shifted}
+use Rattle.bus.specs.Symbols.{bit, value, shifted}
 
 pub value_bit : (q : ℕ) → value (bit q) ≡ q % 2
 value_bit q = go (eqb (q % 2) 0) refl

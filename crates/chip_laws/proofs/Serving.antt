@@ -9,7 +9,7 @@ use Rattle.history.specs.Contest.{Polite, Then, Alone}
 use Rattle.history.proofs.General.{least_left, least_right}
 use Rattle.bus.specs.declared.Symbol.{Symbol}
 use Rattle.bus.specs.declared.Symbol.TheVariants.{Zero, Stop, Start, One}
-use Rattle.bus.specs.Symbols.{symbols, is_bit, is_stop, bit, value, heading_bit}
+use Rattle.bus.specs.Symbols.{symbols, is_bit, is_stop, bit, value, shifted, heading_bit}
 use Rattle.bus.specs.declared.Direction.{Direction}
 use Rattle.bus.specs.declared.Direction.TheVariants as direction
 use Rattle.bus.specs.declared.Turn.{Turn}
@@ -28,7 +28,7 @@ use Rattle.slaves.specs.Slave.{Heard, Slave, Meek, Follows, Well, turns_after, r
 use Rattle.slaves.specs.Machine.{slave_of}
 use Rattle.slaves.proofs.Machines.{well}
 use Rattle.chips.specs.Store.{Store, Rule}
-use Rattle.chips.specs.Chips.{Chip, chip, chip_step, chip_offer, chip_polite, shifted}
+use Rattle.chips.specs.Chips.{Chip, chip, chip_step, chip_offer, chip_polite}
 use Rattle.chips.specs.States.{made}
 use Rattle.chip_laws.specs.Served.{Served, current, ended, preceded, brought, moved_past, takes_in, serves}
 use Rattle.chip_laws.proofs.Bits.{value_bit, gathered, gathered_all, gathered_address, collected, collected_all}

@@ -7,7 +7,7 @@ use Rattle.history.specs.Contest.{on, Polite, Then, Alone}
 use Rattle.history.proofs.General.{least_left, least_right, least_either, polite_on, alone_one}
 use Rattle.bus.specs.declared.Symbol.{Symbol}
 use Rattle.bus.specs.declared.Symbol.TheVariants.{Zero, Stop, Start, One}
-use Rattle.bus.specs.Symbols.{symbols, is_bit, is_stop, bit, value, heading_bit}
+use Rattle.bus.specs.Symbols.{symbols, is_bit, is_stop, bit, value, shifted, heading_bit}
 use Rattle.bus.specs.declared.Direction.{Direction}
 use Rattle.bus.specs.declared.Direction.TheVariants as direction
 use Rattle.bus.specs.declared.Turn.{Turn}
@@ -24,7 +24,7 @@ use Rattle.slaves.specs.Slave.{Slave, Well, replies}
 use Rattle.slaves.specs.Machine.{slave_of}
 use Rattle.slaves.proofs.Machines.{well}
 use Rattle.chips.specs.Store.{Store, Rule}
-use Rattle.chips.specs.Chips.{Chip, chip, shifted}
+use Rattle.chips.specs.Chips.{Chip, chip}
 use Rattle.chips.specs.States.{made}
 use Rattle.chip_laws.specs.Laws.{only, after}
 use Rattle.chip_laws.specs.Unaddressed.{Elsewhere, Unaddressed, Among, AsIfAlone}

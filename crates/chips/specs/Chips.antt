@@ -9,7 +9,7 @@ use Rattle.bus.specs.declared.Symbol.{Symbol}
 use Rattle.bus.specs.declared.Symbol.TheVariants.{Zero, Stop, Start, One}
 use Rattle.bus.specs.declared.Turn.{Turn}
 use Rattle.bus.specs.declared.Turn.TheVariants.{Free, Address, AddressNinth, Border, Write, WriteNinth, Read, ReadNinth, ClosingBorder}
-use Rattle.bus.specs.Symbols.{is_bit, bit, value}
+use Rattle.bus.specs.Symbols.{is_bit, bit, value, shifted}
 use Rattle.bus.specs.Turns.{next, masters_slot}
 use Rattle.slaves.specs.Slave.{Event, Heard, Freed, Told, turn_after, Meek}
 use Rattle.slaves.specs.Machine.{Machine}
@@ -25,10 +25,6 @@ pub record Port : Type 0 where
 pub record Chip : Type 0 where
   pub port : Port
   pub store : Store
-
--- one bit more of a byte
-abbrev pub shifted : ℕ → Symbol → ℕ
-shifted n x = n % 128 * 2 + value x
 
 -- a ninth slot
 abbrev pub acknowledge : Bool → Symbol

@@ -4,7 +4,7 @@ ghost use Rattle.bus.specs.Banks.{Single};
 ghost use Rattle.bus.specs.Turns.{next};
 ghost use Rattle.slaves.specs.Slave.{Heard};
 ghost use Rattle.slaves.specs.Machine.{slave_of};
-ghost use Rattle.chips.specs.Chips.{shifted as shifted_by, port_bit, port_heard, cleared, at_turn, acknowledge as acknowledge_by, chip_offer, store_bit, chip_step, chip};
+ghost use Rattle.chips.specs.Chips.{port_bit, port_heard, cleared, at_turn, acknowledge as acknowledge_by, chip_offer, store_bit, chip_step, chip};
 ghost use Rattle.chips.specs.Parts.{port_of};
 ghost use Rattle.chips.specs.States.{chip_of};
 ghost use Rattle.slaves.proofs.Machines.{well};
@@ -14,13 +14,6 @@ use crate::{Chip, Device};
 use bus::{Symbol, Turn};
 use refusals::Refusal;
 use slaves::Slaves;
-
-// One bit more of a byte.
-fn shifted(bits: u8, bit: Symbol) -> u8
-    ensures { result ≡ shifted_by bits bit }
-{
-    bits % 128 * 2 + bit.value()
-}
 
 // A ninth slot.
 fn acknowledge(yes: bool) -> Symbol
@@ -38,10 +31,10 @@ impl Plug {
                 if n == 0 {
                     self.addressed = self.bits == self.address;
                 }
-                self.bits = shifted(self.bits, bit);
+                self.bits = bit.shifted_into(self.bits);
             }
             Turn::Border => self.bits = bit.value(),
-            Turn::Write(_) => self.bits = shifted(self.bits, bit),
+            Turn::Write(_) => self.bits = bit.shifted_into(self.bits),
             Turn::WriteNinth => self.fresh = false,
             _ => {}
         }

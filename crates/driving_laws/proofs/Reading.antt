@@ -8,7 +8,7 @@ use Rattle.bus.specs.declared.Symbol.{Symbol}
 use Rattle.bus.specs.declared.Symbol.TheVariants as symbol
 use Rattle.bus.specs.declared.Turn.{Turn}
 use Rattle.bus.specs.declared.Turn.TheVariants as turn
-use Rattle.bus.specs.Symbols.{is_bit, is_stop, value}
+use Rattle.bus.specs.Symbols.{is_bit, is_stop, value, shifted}
 use Rattle.bus.specs.Turns.{next}
 use Rattle.orders.specs.Orders.{Segment, writing, reading, Order, reads, count}
 use Rattle.scripts.specs.Scripts as script
@@ -20,7 +20,7 @@ use Rattle.masters.specs.Standings.{keeps}
 use Rattle.block.specs.declared.Block.{Block}
 use Rattle.block.specs.declared.Task.TheVariants as task
 use Rattle.block.specs.Slots.{same}
-use Rattle.block.specs.Flags.{loss, shifted}
+use Rattle.block.specs.Flags.{loss}
 use Rattle.block.specs.Heard.{moved_on}
 use Rattle.block.specs.Access.{byte_moves}
 use Rattle.driving.specs.declared.Phase.{Phase}
