@@ -35,45 +35,36 @@ handed_by buffer l n (Both a b) =
     (elim o [ None ↦ collect_into n buffer a | Some k ↦ collect_into k buffer b ]))
     [ None ↦ handed_by buffer l n a | Some k ↦ handed_by buffer l k b ]
 
--- the same for the call as it was made
-pub handed_over : (w : Model) (n k : ℕ) (buffer buffer' : List ℕ) (r q : Result code.Answer Refusal) → length buffer ≡ 32 → k ≡ n
-    → r ≡ collect_answer k 32 w.masters → r ≡ q → buffer' ≡ collect_into k buffer w.masters
-    → Handed buffer (standing n w) q buffer'
-handed_over w n k buffer buffer' r q l ek er eq eb =
-    let had = handed_by buffer l n w.masters in
-    let e : collect_answer n 32 w.masters ≡ q = ap (λ (i : ℕ). collect_answer i 32 w.masters) (sym ek) ∙ sym er ∙ eq in
-    let f : collect_into n buffer w.masters ≡ buffer' = ap (λ (i : ℕ). collect_into i buffer w.masters) (sym ek) ∙ sym eb in
-    subst (λ (b : List ℕ). Handed buffer (standing n w) q b) f (subst (λ (v : Result code.Answer Refusal). Handed buffer (standing n w) v (collect_into n buffer w.masters)) e had)
+-- the line of a collect that returned r and left b in the buffer
+abbrev pub Collected : Model → ℕ → Result code.Answer Refusal → List ℕ → Type 0
+Collected w n (Ok a) b =
+    (a.count ≤ length b)
+    × (5 ∷ (n ∷ (0 ∷ (outcome_number a.outcome ∷ (segment_at_fault a.outcome ∷ (byte_at_fault a.outcome ∷ (a.losses ∷ (a.count ∷ take a.count b))))))) ≡ reply (collect n) w)
+Collected w n (Err e) b = 5 ∷ (n ∷ (number e ∷ [])) ≡ reply (collect n) w
 
-pub count_within : (buffer buffer' : List ℕ) (st : Standing) (a : code.Answer) → Handed buffer st (Ok a) buffer' → a.count ≤ length buffer'
-count_within buffer buffer' st a h =
-    let bytes = h.0.bytes in
-    let count : a.count ≡ length bytes = ap (λ (v : code.Answer). v.count) h.2 in
-    omega (arith, count, ap length h.3, length-append bytes (drop (length bytes) buffer))
-
-returned_by : (w : Model) (n k : ℕ) (r q : Result code.Answer Refusal) → k ≡ n → r ≡ collect_answer k 32 w.masters → r ≡ q
-    → returned q ≡ returned (collect_answer n 32 w.masters)
-returned_by w n k r q ek er eq = ap returned (sym eq ∙ er) ∙ ap (λ (i : ℕ). returned (collect_answer i 32 w.masters)) ek
-
-pub answer_line : (w : Model) (n k : ℕ) (buffer buffer' : List ℕ) (r : Result code.Answer Refusal) (a : code.Answer) → k ≡ n
-    → r ≡ collect_answer k 32 w.masters → r ≡ Ok a → Handed buffer (standing n w) (Ok a) buffer'
-    → 5 ∷ (n ∷ (0 ∷ (outcome_number a.outcome ∷ (segment_at_fault a.outcome ∷ (byte_at_fault a.outcome ∷ (a.losses ∷ (a.count ∷ take a.count buffer')))))))
-    ≡ reply (collect n) w
-answer_line w n k buffer buffer' r a ek er eq h =
+line_of : (w : Model) (n : ℕ) (buffer b : List ℕ) (r : Result code.Answer Refusal) → r ≡ collect_answer n 32 w.masters → Handed buffer (standing n w) r b → Collected w n r b
+line_of w n buffer b (Ok a) e h =
     let x = h.0 in
     let o = x.outcome in
-    let bytes : take (length x.bytes) buffer' ≡ x.bytes = ap (take (length x.bytes)) h.3 ∙ take_at x.bytes (drop (length x.bytes) buffer) (length x.bytes) refl in
-    ap (λ (v : code.Answer). 5 ∷ (n ∷ (0 ∷ (outcome_number v.outcome ∷ (segment_at_fault v.outcome ∷ (byte_at_fault v.outcome ∷ (v.losses ∷ (v.count ∷ take v.count buffer')))))))) h.2
-    ∙ ap (λ (l : List ℕ). 5 ∷ (n ∷ (0 ∷ (outcome_number o ∷ (segment_at_fault o ∷ (byte_at_fault o ∷ (x.losses ∷ (length x.bytes ∷ l)))))))) bytes
-    ∙ ap (λ (i : ℕ). 5 ∷ (n ∷ (i ∷ answer_numbers (answered x)))) (returned_by w n k r (Ok a) ek er eq)
-    ∙ ap (λ (st : Standing). 5 ∷ (n ∷ (returned (collect_answer n 32 w.masters) ∷ answer_numbers st))) (sym h.1)
+    let count : a.count ≡ length x.bytes = ap (λ (v : code.Answer). v.count) h.2 in
+    let bytes : take (length x.bytes) b ≡ x.bytes = ap (take (length x.bytes)) h.3 ∙ take_at x.bytes (drop (length x.bytes) buffer) (length x.bytes) refl in (
+      omega (arith, count, ap length h.3, length-append x.bytes (drop (length x.bytes) buffer)),
+      ap (λ (v : code.Answer). 5 ∷ (n ∷ (0 ∷ (outcome_number v.outcome ∷ (segment_at_fault v.outcome ∷ (byte_at_fault v.outcome ∷ (v.losses ∷ (v.count ∷ take v.count b)))))))) h.2
+          ∙ ap (λ (l : List ℕ). 5 ∷ (n ∷ (0 ∷ (outcome_number o ∷ (segment_at_fault o ∷ (byte_at_fault o ∷ (x.losses ∷ (length x.bytes ∷ l)))))))) bytes
+          ∙ ap (λ (v : Result code.Answer Refusal). 5 ∷ (n ∷ (returned v ∷ answer_numbers (answered x)))) e
+          ∙ ap (λ (st : Standing). 5 ∷ (n ∷ (returned (collect_answer n 32 w.masters) ∷ answer_numbers st))) (sym h.1),
+    )
+line_of w n buffer b (Err f) e h =
+    ap (λ (v : Result code.Answer Refusal). 5 ∷ (n ∷ (returned v ∷ []))) e ∙ ap (λ (l : List ℕ). 5 ∷ (n ∷ (returned (collect_answer n 32 w.masters) ∷ l))) (sym h)
 
-pub refused_line : (w : Model) (n k : ℕ) (r : Result code.Answer Refusal) (e : Refusal) → k ≡ n
-    → r ≡ collect_answer k 32 w.masters → r ≡ Err e → answer_numbers (standing n w) ≡ []
-    → 5 ∷ (n ∷ (number e ∷ [])) ≡ reply (collect n) w
-refused_line w n k r e ek er eq h =
-    ap (λ (i : ℕ). 5 ∷ (n ∷ (i ∷ []))) (returned_by w n k r (Err e) ek er eq)
-    ∙ ap (λ (l : List ℕ). 5 ∷ (n ∷ (returned (collect_answer n 32 w.masters) ∷ l))) (sym h)
+-- the same for the call as it was made
+pub collected : (w : Model) (n k : ℕ) (buffer buffer' : List ℕ) (r q : Result code.Answer Refusal) → length buffer ≡ 32 → k ≡ n
+    → r ≡ collect_answer k 32 w.masters → r ≡ q → buffer' ≡ collect_into k buffer w.masters → Collected w n q buffer'
+collected w n k buffer buffer' r q l ek er eq eb =
+    let e : q ≡ collect_answer n 32 w.masters = sym eq ∙ er ∙ ap (λ (i : ℕ). collect_answer i 32 w.masters) ek in
+    let f : collect_into n buffer w.masters ≡ buffer' = ap (λ (i : ℕ). collect_into i buffer w.masters) (sym ek) ∙ sym eb in
+    let had = handed_by buffer l n w.masters in
+    line_of w n buffer buffer' q e (subst (Handed buffer (standing n w) q) f (subst (λ (v : Result code.Answer Refusal). Handed buffer (standing n w) v (collect_into n buffer w.masters)) (sym e) had))
 
 -- the numbers of an answer, as they were had
 pub numbers_as : (kind n losses : ℕ) (buffer : List ℕ) (o s b k i o' s' b' k' : ℕ) → kind ≡ 5 → o ≡ o' → s ≡ s' → b ≡ b' → k ≡ k' → i ≡ k'

@@ -1,5 +1,5 @@
 -- Commands by their numbers. Assumes nothing.
-use Rattle.std.proofs.Common.{◌≡◌, ℕ, zero, suc, ◌+◌, ◌-◌, ◌*◌, ◌<◌, ◌≤◌, Bool, true, false, cond, ltb, List, [], ◌∷◌, ◌++◌, length, is_ok, is_some, get_or, take, drop, IfOk, Some, None, Ok, Err, Result, sym, refl, ap, ◌∙◌, subst, arith, lt-ltb, MatchOption}
+use Rattle.std.proofs.Common.{◌≡◌, ℕ, zero, suc, ◌+◌, ◌-◌, ◌*◌, ◌<◌, ◌≤◌, Bool, true, false, cond, ltb, List, [], ◌∷◌, ◌++◌, length, is_ok, is_some, get_or, take, drop, Some, None, Ok, Err, Result, sym, refl, ap, ◌∙◌, subst, arith, lt-ltb, MatchOption}
 use mathlib.Core.Option.{none, some}
 use borrow.Author.Tests.{clash}
 use Rattle.std.specs.declared.option.Option as std
@@ -112,19 +112,15 @@ segment_more ns ms ss ss' l es e =
     spread [] = refl
     spread (s ∷ ss) = ap (λ (q : List ℕ). s.address ∷ (s.direction ∷ (s.count ∷ q))) (spread ss)
 
+-- a list with room takes one item more
+pub pushed : {A : Type 0} (xs xs' : List A) (x : A) (n : ℕ) → xs' ≡ cond (ltb (length xs) n) (xs ++ (x ∷ [])) xs → length xs < n → xs' ≡ xs ++ (x ∷ [])
+pushed xs xs' x n e room = e ∙ ap (λ (b : Bool). cond b (xs ++ (x ∷ [])) xs) (lt-ltb (length xs) n room)
+
 -- what the numbers ask for, the line means
 pub line_means : (line ns : List ℕ) (r : std.Option code.Command) → Is line ns → Reads ns r
     → MatchOption r (Means line none) (λ k. (c : Command) × Asks line c × Fits k c)
 line_means line ns None is reads = λ c a. reads c (one_list line ns (spelt c) is.0 a.0.0) a.1
 line_means line ns (Some k) is reads = (reads.0, (subst (λ (q : List ℕ). Is line q) reads.1 is, reads.2), reads.3)
-
--- a list with room takes one item more
-pub pushed : {A : Type 0} (xs xs' : List A) (x : A) (n : ℕ) → xs' ≡ cond (ltb (length xs) n) (xs ++ (x ∷ [])) xs → length xs < n → xs' ≡ xs ++ (x ∷ [])
-pushed xs xs' x n e room = e ∙ ap (λ (b : Bool). cond b (xs ++ (x ∷ [])) xs) (lt-ltb (length xs) n room)
-
-pub made_so : {X Y : Type 0} (r : Result X Y) (P Q : X → Type 0) → ((x : X) → P x → Q x) → IfOk r P → IfOk r Q
-made_so (Ok x) P Q f p = f x p
-made_so (Err y) P Q f p = tt
 
 -- numbers whose first is that of no kind
 pub no_kind : (ns : List ℕ) (named : Result Kind Refusal) (o : std.Option Kind) (r : std.Option code.Command)

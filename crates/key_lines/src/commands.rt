@@ -5,7 +5,6 @@ mod segments;
 
 pub(crate) use kind::Kind;
 pub use numbers::one_meaning;
-
 use orders::Order;
 use refusals::Refusal;
 

@@ -20,7 +20,12 @@ pub(crate) fn short_reply(
 ) -> Result<String, AllocError>
     ensures { IfOk result (λ s. string_bytes s ≡ text_of (kind_number kind ∷ (number ∷ (returned_by res ∷ [])))) }
 {
-    text(heap, kind.number(), &[number, u16::from(returned(res))], &[])
+    text(
+        heap,
+        kind.number(),
+        &[number, u16::from(returned(res))],
+        &[],
+    )
 }
 
 // The line of a line that asks for nothing.
