@@ -10,11 +10,8 @@ pub fn text(heap: Global, first: u16, more: &[u16], bytes: &[u8]) -> Result<Stri
     ensures { IfOk result (λ s. string_bytes s ≡ text_of (first ∷ (more.now ++ bytes.now))) }
 {
     let mut out = format!(in heap; "{first}")?;
-    for n in more
-        .iter()
-        .copied()
-        .chain(bytes.iter().map(|b| u16::from(*b)))
-    {
+    let bytes = bytes.iter().map(|b| u16::from(*b));
+    for n in more.iter().copied().chain(bytes) {
         write!(out, " {n}")?;
     }
     Ok(out)

@@ -18,7 +18,7 @@ returns c =
     (YieldsList-at c.into_iter-n-iterator.ensures.into_iter_gives
     (YieldsList-from_chain
     (YieldsList-at chained.first (YieldsList-from_copied (YieldsList-at c.copied.ensures.source (YieldsList-from_slice c.args.more.now cc))))
-    (YieldsList-at chained.second (YieldsList-from_map _ (λ b. b) (YieldsList-at c.map.ensures.source (YieldsList-from_slice c.args.bytes.now cc)) c.map.ensures.closure (λ x r q k. search rules)))
+    (YieldsList-at chained.second (YieldsList-from_map _ (λ b. b) (YieldsList-at c.map-bytes.ensures.source (YieldsList-from_slice c.args.bytes.now cc)) c.map-bytes.ensures.closure (λ x r q k. search rules)))
     chained.first_done chained.second_done))
     c.loop-n.yielded _ c.loop-n.yielded_by _ _ c.in-None.is c.next.ensures.steps in
     let seen : c.loop-n.yielded ≡ c.args.more.now ++ c.args.bytes.now =
