@@ -1,20 +1,36 @@
 -- Parts of a buffer written one after another. Assumes nothing.
-use Rattle.std.proofs.Common.{◌≡◌, ℕ, ◌+◌, ◌-◌, ◌≤◌, min, Bool, true, false, cond, List, [], ◌++◌, length, take, drop, sym, ap, ◌∙◌, arith, length-drop}
+use Rattle.std.proofs.Common.{refl, ◌≡◌, ℕ, ◌+◌, ◌-◌, ◌≤◌, min, Bool, true, false, cond, List, [], ◌++◌, length, take, drop, sym, ap, ◌∙◌, arith, length-drop}
 use borrow.Rule.Slice.PartMut.{put_mid}
-use Rattle.std.specs.List.{between}
+use Rattle.std.specs.List.{between, sum_by}
+use Rattle.std.proofs.lemmas.List.Recursion.{is_sum_by}
 use Rattle.std.proofs.lemmas.List.{append_assoc, append-nil, length-take, length-take-le, take_all, take_min, take_rest, take-append-drop, take_at, drop_at, drop-drop, drop_all, take-take}
 use Rattle.std.proofs.lemmas.Slice.{between_is}
+use Rattle.bus.specs.declared.Direction.{Direction}
+use Rattle.bus.specs.declared.Direction.TheVariants.{Write, Read}
+use Rattle.orders.specs.declared.Segment.{Segment}
+use Rattle.orders.specs.Orders.{read_of}
+use Rattle.orders.specs.Tables.{aimed, meant, meaning}
+use Rattle.progress.specs.Plans.{share, read_total}
 use Rattle.orders.specs.declared.bytes.Bytes.{Bytes}
 use Rattle.orders.specs.Held.{held}
+use Rattle.orders.proofs.Holds.{few_held}
 use Rattle.progress.specs.Handing.{put_at}
 
-pub held_few : (b : Bytes) → length (held b) ≤ 32
-held_few b = simp length-take (omega (arith, b.within))
+-- what segments read
+pub share_is : (bs : List ℕ) (s : Segment) → share (meant bs s) ≡ cond (read_of s.direction) s.count 0
+share_is bs s = go s.direction (take s.count (drop s.at bs))
+  where
+    go : (d : Direction) (xs : List ℕ) → share (aimed d s.address s.count xs) ≡ cond (read_of d) s.count 0
+    go Write xs = refl
+    go Read xs = refl
+
+pub reads_are : (bs : List ℕ) (ss : List Segment) → read_total (meaning ss bs) ≡ sum_by (λ s. cond (read_of s.direction) s.count 0) ss
+reads_are bs = is_sum_by (λ ss. read_total (meaning ss bs)) (λ s. cond (read_of s.direction) s.count 0) refl (λ s ss. ap (λ n. n + read_total (meaning ss bs)) (share_is bs s))
 
 -- the first n of a few bytes, as they are copied
 pub first_few : (b : Bytes) (n : ℕ) → take 32 (take (min n (length (held b))) (held b)) ≡ take n (held b)
 first_few b n =
-    let few = held_few b in
+    let few = few_held b in
     take_all 32 (take (min n (length (held b))) (held b)) (simp length-take (omega arith)) ∙ take_min n (held b)
 
 -- a write to `buffer[at..]`

@@ -1,6 +1,6 @@
 // Handing an answer over, segment by segment.
 ghost use Rattle.std.specs.Prelude.{◌≡◌, ◌+◌, ◌≤◌, min, ◌++◌, length, take, drop, if◌then◌else◌};
-ghost use Rattle.std.specs.List.{between};
+ghost use Rattle.std.specs.List.{between, sum_by};
 ghost use Rattle.orders.specs.Held.{held};
 ghost use Rattle.orders.specs.Orders.{read_of};
 ghost use Rattle.orders.specs.Fills.{order_of};
@@ -37,18 +37,18 @@ fn hand_part(segment: Segment, bytes: &Bytes, buffer: &mut [u8], at: usize) -> u
     next
 }
 
-// How many bytes an order reads.
-fn read_count(order: &Order) -> usize
-    ensures { result ≡ read_total (order_of order.now) }
+// How many bytes they read.
+fn read_count(segments: &[Segment]) -> usize
+    requires { length segments.now ≤ 4 }
+    ensures { result ≡ sum_by (λ s. if read_of s.direction then s.count else 0) segments.now }
 {
-    let mut total = 0;
-    for i in 0..order.len() {
-        let segment = order.segment(i);
-        if let Direction::Read = segment.direction {
-            total += segment.count as usize;
-        }
-    }
-    total
+    segments
+        .iter()
+        .map(|s| match s.direction {
+            Direction::Write => 0,
+            Direction::Read => usize::from(s.count),
+        })
+        .sum()
 }
 
 impl Finished {
@@ -58,7 +58,7 @@ impl Finished {
         ensures whole { (length (held bytes) ≤ read_total (order_of order)) → answer_in result ≡ record { outcome = outcome; losses = losses; bytes = held bytes } }
     {
         let bytes = bytes.as_slice();
-        let kept = read_count(&order).min(bytes.len());
+        let kept = read_count(order.segments()).min(bytes.len());
         Finished {
             order,
             outcome,
@@ -71,10 +71,9 @@ impl Finished {
         requires { 32 ≤ length buffer.old }
         ensures { buffer.new ≡ held self.now.bytes ++ drop (length (held self.now.bytes)) buffer.old }
     {
-        let bytes = self.bytes;
         let mut at = 0;
-        for i in 0..self.order.len() {
-            at = hand_part(self.order.segment(i), &bytes, buffer, at);
+        for segment in self.order.segments() {
+            at = hand_part(*segment, &self.bytes, buffer, at);
         }
     }
 

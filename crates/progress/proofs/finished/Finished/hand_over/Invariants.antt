@@ -1,11 +1,11 @@
 use Rattle.std.proofs.Common.{◌≡◌, ◌+◌, ◌≤◌, ◌++◌, length, take, drop}
 use Rattle.orders.specs.Held.{held}
-use Rattle.orders.specs.Fills.{order_of}
+use Rattle.orders.specs.Tables.{meaning}
 use Rattle.progress.specs.Plans.{read_total}
 use Rattle.progress.proofs.finished.Finished.hand_over.Given as goal
 
-abbrev pub invariant-loop-i : goal.invariant-loop-i
-invariant-loop-i l =
-    (l.at ≤ length (held l.bytes))
-    × (length (held l.bytes) ≤ l.at + read_total (drop l.i (order_of l.self.order)))
-    × (l.buffer ≡ take l.at (held l.bytes) ++ drop l.at l.initial.buffer)
+abbrev pub invariant-loop-segment : goal.invariant-loop-segment
+invariant-loop-segment l =
+    (l.at ≤ length (held l.self.bytes))
+    × (length (held l.self.bytes) ≤ l.at + read_total (meaning (drop l.segment-index l.segment-items) (held l.self.order.bytes)))
+    × (l.buffer ≡ take l.at (held l.self.bytes) ++ drop l.at l.initial.buffer)

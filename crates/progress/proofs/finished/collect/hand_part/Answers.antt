@@ -3,7 +3,8 @@ use Rattle.progress.specs.Handing.{put_at}
 use Rattle.std.specs.List.{between}
 use Rattle.std.proofs.lemmas.List.Edits.{length-between}
 use Rattle.orders.specs.Held.{held}
-use Rattle.progress.proofs.Handing.{held_few, put_part, put_none}
+use Rattle.orders.proofs.Holds.{few_held}
+use Rattle.progress.proofs.Handing.{put_part, put_none}
 use Rattle.progress.proofs.finished.collect.hand_part.Goals as goal
 
 pub returns-in_default : goal.returns-in_default
@@ -17,7 +18,7 @@ returns c =
     let xs = c.as_slice-bytes.result.now in
     let is : xs ≡ held c.args.bytes.now = c.as_slice-bytes.ensures in
     let same = ap length is in
-    let few = held_few c.args.bytes.now in
+    let few = few_held c.args.bytes.now in
     let long = length-between xs at next (omega (arith, c.min-next.ensures)) in
     let room : at + length (between at next xs) ≤ length buffer = omega (arith, c.min-next.ensures, c.requires) in
     record {
