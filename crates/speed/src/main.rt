@@ -2,7 +2,6 @@
 // What was moved goes to standard output, the slots a second to standard error.
 #![tactic(auto)]
 
-use anyhow::anyhow;
 use bench::Bench;
 use books::Book;
 use bus::Pair;
@@ -17,45 +16,38 @@ type KeyBench = Bench<Pair<Driver, Line>, Pair<Gauge, Memory>>;
 
 const SLOTS: u64 = 10_000_000;
 
-fn accepted<T>(res: Result<T, Refusal>) -> anyhow::Result<T> {
-    match res {
-        Ok(value) => Ok(value),
-        Err(_) => Err(anyhow!("a call was refused")),
-    }
-}
-
 // A write of 32 bytes to the memory, or a read of 32 bytes from the gauge.
-fn order(address: u16, direction: u16, bytes: &[u8]) -> anyhow::Result<Order> {
+fn order(address: u16, direction: u16, bytes: &[u8]) -> Result<Order, Refusal> {
     let mut order = Order::new();
     let segment = RawSegment {
         address,
         direction,
         count: 32,
     };
-    accepted(order.fill(&[segment], bytes))?;
+    order.fill(&[segment], bytes)?;
     Ok(order)
 }
 
 // Hands over what the last run brought, and gives the master an order again.
-fn renew(bench: &mut KeyBench, number: usize, order: Order) -> anyhow::Result<()> {
+fn renew(bench: &mut KeyBench, number: usize, order: Order) -> Result<(), Refusal> {
     let mut buffer = [0; 32];
     let _ = bench.collect(number, &mut buffer);
-    accepted(bench.place(number, order))
+    bench.place(number, order)
 }
 
 // One run: how many slots it moved.
-fn run(bench: &mut KeyBench, write: Order, read: Order) -> anyhow::Result<u64> {
+fn run(bench: &mut KeyBench, write: Order, read: Order) -> Result<u64, Refusal> {
     renew(bench, 0, write)?;
     renew(bench, 1, read)?;
     let mut places = [0; 999];
     let mut book = Book::new(&mut places);
     let moved = bench.run(999, &mut book);
     let _ = book.close();
-    Ok(accepted(moved)? as u64)
+    Ok(moved? as u64)
 }
 
 // Runs until the slots are moved: how many runs, and how many slots.
-fn run_all(bench: &mut KeyBench) -> anyhow::Result<(u64, u64)> {
+fn run_all(bench: &mut KeyBench) -> Result<(u64, u64), Refusal> {
     let write = order(80, 0, &[7; 32])?;
     let read = order(72, 1, &[])?;
     let mut moved = 0u64;
@@ -74,8 +66,8 @@ fn measure(rt: &(impl Print + Eprint + Clock)) -> anyhow::Result<()> {
         right: Line::new(),
     };
     let slaves = Pair {
-        left: accepted(Gauge::new(72, [25, 130, 7, 0]))?,
-        right: accepted(Memory::new(80))?,
+        left: Gauge::new(72, [25, 130, 7, 0])?,
+        right: Memory::new(80)?,
     };
     let mut bench = Bench::assemble(masters, slaves);
     let start = Instant::now(rt)?;
