@@ -1,7 +1,7 @@
 // A bench of masters and slaves, its six calls, and the law of contests. A call of `law::holds` brings the theorem; it does nothing.
 #![tactic(auto)]
 
-ghost use Rattle.std.specs.Prelude.{◌≡◌, [], ◌∷◌, ◌++◌, ◌+◌, ◌-◌, ◌≤◌, length};
+ghost use Rattle.std.specs.Prelude.{◌≡◌, [], ◌∷◌, ◌+◌, ◌-◌, ◌≤◌, length};
 ghost use Rattle.books.specs.Marks.{marked, Grows};
 ghost use Rattle.bus.specs.Symbols.{rank as rank_of};
 ghost use Rattle.bus.specs.Banks.{All};

@@ -1,7 +1,7 @@
 // What is done with a book.
-ghost use Rattle.std.specs.Prelude.{◌≡◌, ◌+◌, ◌-◌, ltb, [], ◌∷◌, ◌++◌, length, is_ok, if◌then◌else◌, nat_lt};
+ghost use Rattle.std.specs.Prelude.{◌≡◌, ◌-◌, [], ◌∷◌, length, is_ok, if◌then◌else◌, nat_lt};
 ghost use Rattle.refusals.specs.Numbers.{returned};
-ghost use Rattle.books.specs.Marks.{marked, blank, Grows};
+ghost use Rattle.books.specs.Marks.{marked, Grows};
 
 use crate::Book;
 use refusals::Refusal;
@@ -32,14 +32,9 @@ impl<'a, T: Copy> Book<'a, T> {
 
     // Adds a mark after the others; a full book refuses and stays as it is.
     pub fn mark(&mut self, mark: T) -> Result<(), Refusal>
-        ensures answer { returned result ≡ (if ltb self.old.used (length self.old.places.now) then 0 else 22) }
-        ensures grows { Grows self.old self.new (if is_ok result then mark ∷ [] else []) }
+        ensures answer { returned result ≡ (if nat_lt self.old.used (length self.old.places.now) then 0 else 22) }
         ensures test { is_ok result ≡ nat_lt self.old.used (length self.old.places.now) }
-        ensures used { self.new.used ≡ (if is_ok result then self.old.used + 1 else self.old.used) }
-        ensures marks { marked self.new.places.now self.new.used ≡ (if is_ok result then marked self.old.places.now self.old.used ++ (mark ∷ []) else marked self.old.places.now self.old.used) }
-        ensures rest { blank self.new.places.now self.new.used ≡ blank self.old.places.now self.new.used }
-        ensures long { length self.new.places.now ≡ length self.old.places.now }
-        ensures named { self.new.places.ghost_name ≡ self.old.places.ghost_name }
+        ensures grows { Grows self.old self.new (if is_ok result then mark ∷ [] else []) }
     {
         if self.used >= self.places.len() {
             return Err(Refusal::FullBook);
