@@ -1,13 +1,10 @@
 -- Words taken one by one. Assumes nothing.
-use Rattle.std.proofs.Common.{◌≡◌, suc, List, [], ◌∷◌, length, None, Option, sym, refl, ap, ◌∙◌, subst}
+use Rattle.std.proofs.Common.{◌≡◌, suc, List, [], ◌∷◌, length, None, sym, ap, ◌∙◌, subst}
 use Rattle.std.specs.Iterator.{Yields, Drains}
 use Rattle.reader.specs.declared.Word.{Word}
 use Rattle.reader.specs.declared.words.Words.{Words}
 use Rattle.reader.specs.Words.{Meaning}
-use Rattle.reader.specs.Cursors.{Left, Exhausted, Gives}
-
-pub gives_none : (a : Words) (r : Option Word) → r ≡ None → Exhausted a → Gives a r a
-gives_none a r e x = subst (λ (q : Option Word). Gives a q a) (sym e) (x, refl)
+use Rattle.reader.specs.Cursors.{Left, Gives}
 
 taken : (a b c : Words) (xs : List Word) (ws : List Meaning) → Yields Gives a xs b → Gives b None c → Left a ws → length xs ≡ length ws
 taken a b c [] ws y g l = sym (ap length (g.0 ws (subst (λ (v : Words). Left v ws) y l)))

@@ -1,5 +1,5 @@
 -- Marking the words of a record. Assumes nothing.
-use Rattle.std.proofs.Common.{◌≡◌, ℕ, ◌+◌, ◌≤◌, List, [], ◌∷◌, ◌++◌, map, length, IsErrAnd, Ok, Err, Result, sym, ap, ◌∙◌, subst, MatchResult, append_assoc, arith}
+use Rattle.std.proofs.Common.{◌≡◌, ℕ, ◌+◌, ◌≤◌, List, [], ◌∷◌, ◌++◌, map, length, sym, ap, ◌∙◌, subst, append_assoc, arith}
 use Rattle.std.proofs.lemmas.List.{map_push}
 use Rattle.books.specs.declared.Book.{Book}
 use Rattle.books.specs.Marks.{Grows}
@@ -33,8 +33,3 @@ listing_more slots before book next w v m g moves h =
       grows = subst (Grows before next) (sym (map_push listed g.done m)) (grows_more before book next (map listed g.done) (listed m ∷ []) g.grows h);
       room = omega (arith, g.room, h.used, h.long, ap length n.1);
     }
-
--- a refusal that is handed on
-pub err_cases : {T E : Type 0} (r : Result T E) (e : E) (P : T → Type 0) (Q : E → Type 0) → IsErrAnd r (λ x. x ≡ e) → Q e → MatchResult r P Q
-err_cases (Ok x) e P Q h q = absurd h
-err_cases (Err x) e P Q h q = subst Q (sym h) q

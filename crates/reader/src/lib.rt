@@ -38,7 +38,7 @@ pub enum Word<'a> {
 }
 
 impl Kind {
-    // 0 a start, 1 a stop, 2 a byte.
+    // 0 a start, 1 a stop, 2 a byte, as programs print it.
     pub fn number(self) -> u8
         ensures { result ≡ kind_number self }
     {

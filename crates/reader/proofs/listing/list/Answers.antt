@@ -1,12 +1,15 @@
 use Rattle.std.proofs.Common.{true, refl, arith}
+use Rattle.std.proofs.lemmas.Result.{err_from_is_err_and}
 use Rattle.books.proofs.Growth.{grows_one}
 use Rattle.reader.specs.Words.{meant, listed}
 use Rattle.reader.specs.Refusals.{wrong, full}
-use Rattle.reader.proofs.Marking.{err_cases, listing_start, listing_more}
+use Rattle.reader.proofs.Marking.{listing_start, listing_more}
 use Rattle.reader.proofs.listing.list.Goals as goal
 
 pub returns-in_err-words : goal.returns-in_err-words
-returns-in_err-words c = record { cases = err_cases c.from_residual.result c.in_err-words.field-0.0 _ _ c.from_residual.ensures.1 (wrong c.in_err-words.ensures.cases, refl) }
+returns-in_err-words c =
+    let p = err_from_is_err_and c.from_residual.result c.from_residual.ensures.1 in
+    record { cases = rw (p.1, p.2) (wrong c.in_err-words.ensures.cases, refl) }
 
 pub returns-then-left-count : goal.returns-then-left-count
 returns-then-left-count c =

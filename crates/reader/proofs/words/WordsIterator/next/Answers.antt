@@ -1,8 +1,7 @@
-use Rattle.std.proofs.Common.{◌≡◌, ◌-◌, ◌+◌, ◌<◌, length, take, drop, ◌∙◌, sym, subst₂, arith, rules}
+use Rattle.std.proofs.Common.{◌≡◌, ◌-◌, ◌+◌, ◌<◌, length, take, drop, ◌∙◌, refl, sym, subst₂, arith, rules}
 use Rattle.std.proofs.lemmas.List.{take_rest, length-drop}
 use Rattle.reader.specs.Words.{meant, Takes}
 use Rattle.reader.proofs.Fronts.{Counted, take_end, next_some}
-use Rattle.reader.proofs.Cursors.{gives_none}
 use Rattle.reader.proofs.words.WordsIterator.next.Goals as goal
 
 pub returns-in_err-left-clause-steps : goal.returns-in_err-left-clause-steps
@@ -10,7 +9,7 @@ returns-in_err-left-clause-steps c =
     let self = c.args.self.now in
     let slots = self.slots.now in
     let past : length slots < self.place = search rules in
-    gives_none self c.from_residual.result c.from_residual.ensures (take_end (drop self.place slots) self.place (omega (arith, length-drop self.place slots, past)) self.busy)
+    rw c.from_residual.ensures (take_end (drop self.place slots) self.place (omega (arith, length-drop self.place slots, past)) self.busy, refl)
 
 pub returns-clause-steps : goal.returns-clause-steps
 returns-clause-steps c =
