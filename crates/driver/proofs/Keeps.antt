@@ -23,14 +23,11 @@ use Rattle.driving_laws.proofs.Main.{hears_all, offers_all}
 use Rattle.driving_laws.proofs.Few.{hears_few}
 use Rattle.driving.proofs.Fair.{order_lawful}
 
-sound : (d : Driver) → Sound (order_of d.drive.order) (known_of d.drive.state) d.drive.block
-sound d = record { is_tied = d.tied; is_turned = d.turned; is_unacked = d.unacked; is_real = d.real }
-
 pub driver_offers : (d : Driver) → offers d.drive.block ≡ master.offers (master_of d)
-driver_offers d = offers_all (order_of d.drive.order) (order_lawful d.drive.order) (known_of d.drive.state) d.drive.block (sound d)
+driver_offers d = offers_all (order_of d.drive.order) (order_lawful d.drive.order) (known_of d.drive.state) d.drive.block d.sound
 
 driver_hears : (d : Driver) (x : Symbol) → Hears (order_of d.drive.order) (known_of d.drive.state) d.drive.block x
-driver_hears d x = hears_all (order_of d.drive.order) (order_lawful d.drive.order) (known_of d.drive.state) d.drive.block x (sound d) d.room
+driver_hears d x = hears_all (order_of d.drive.order) (order_lawful d.drive.order) (known_of d.drive.state) d.drive.block x d.sound d.room
 
 -- how a master stands after a slot
 pub record After (d : Driver) (x : Symbol) (o : code.Order) (r : Known) (b : Block) : Type 0 where

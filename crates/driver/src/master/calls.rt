@@ -4,7 +4,6 @@ ghost use Rattle.bus.specs.declared.Turn.TheVariants.{Free};
 ghost use Rattle.orders.specs.Fills.{order_of};
 ghost use Rattle.masters.specs.Standings.{idle as idle_standing, is_waiting};
 ghost use Rattle.masters.specs.Master as master;
-ghost use Rattle.block.specs.Tasks.{offers};
 ghost use Rattle.block.specs.Access.{IICSE0 as status_register, read_value};
 ghost use Rattle.driving.specs.Driving.{assembled as assembled_block};
 ghost use Rattle.driver.specs.Driver.{master_of};
@@ -32,16 +31,10 @@ impl Driver {
         }
     }
 
-    fn block_offer(&self) -> Symbol
-        ensures { result ≡ offers self.now.drive.block }
-    {
-        self.drive.block.offer()
-    }
-
     pub fn offer(&self) -> Symbol
         ensures { result ≡ master.offers (master_of self.now) }
     {
-        self.block_offer()
+        self.drive.block.offer()
     }
 
     // A slot carries the symbol. A P leaves ALD0 = 0.

@@ -7,7 +7,7 @@ pub invariant_of-self : goal.invariant_of-self
 invariant_of-self c =
     let w = slot_heard c.args.self.now c.args.carried c.is_starting-tried.result c.hear.new.self c.respond.new.self c.clear_loss.new.self c.retry.new.self
     c.is_starting-tried.ensures c.hear.ensures c.respond.ensures c.clear_loss.ensures c.retry.ensures in
-    record { tied = w.sound.is_tied; turned = w.sound.is_turned; unacked = w.sound.is_unacked; real = w.sound.is_real; room = w.few }
+    record { sound = w.sound; room = w.few }
 
 pub returns : goal.returns
 returns c =
