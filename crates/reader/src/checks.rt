@@ -23,8 +23,12 @@ pub fn check(slots: &[u8]) -> Result<(), Refusal>
     let mut turn = Turn::Free;
     let mut left = slots;
     while let [first, rest @ ..] = left {
-        let place = slots.len() - left.len();
-        turn = follow(turn, *first).ok_or(Refusal::AgainstTurns { place })?;
+        let Some(next) = follow(turn, *first) else {
+            return Err(Refusal::AgainstTurns {
+                place: slots.len() - left.len(),
+            });
+        };
+        turn = next;
         left = rest;
     }
     if turn.is_busy() {
