@@ -9,9 +9,7 @@ mod stream;
 fn run(rt: &(impl Input + Print + AllocGlobal)) -> anyhow::Result<()> {
     let mut session = Session::new(parts::key_bench());
     let done = stream::answer_all(rt, &mut session);
-    let (masters, slaves) = session.end().take_apart();
-    drop(masters);
-    drop(slaves);
+    drop(session.end());
     done
 }
 
