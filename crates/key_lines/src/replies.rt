@@ -28,7 +28,7 @@ pub(crate) fn short_reply(
     )
 }
 
-// The line of a line that asks for nothing.
+// What a line that asks for nothing gets.
 pub(crate) fn wrong_line(heap: Global) -> Result<String, AllocError>
     ensures { IfOk result (λ s. string_bytes s ≡ text_of (0 ∷ (0 ∷ (19 ∷ [])))) }
 {

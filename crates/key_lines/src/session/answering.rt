@@ -50,7 +50,7 @@ impl<M: Masters, S: Slaves> Session<M, S> {
         ensures answer { IfOk result (λ s. string_bytes s ≡ text_of (reply (asks_run slots) (model M.Masters S.Slaves self.old.bench))) }
         ensures after { model M.Masters S.Slaves self.new.bench ≡ afterwards (asks_run slots) (model M.Masters S.Slaves self.old.bench) }
     {
-        // room for every run that a line can ask for
+        // room for every run that a line can ask for, lent to a book as the bench wants it
         let mut places = [0u8; 999];
         let mut book = Book::new(&mut places);
         let moved = self.bench.run(usize::from(slots), &mut book);
