@@ -149,7 +149,7 @@ fn contest<M: Masters>(
     write!(text, "|")
 }
 
-// What a master hands over: 0 and its answer, or the number of the refusal.
+// What a master hands over: 0 and its answer, or the number of the refusal. `swap` and `transfer` print answers in other forms.
 fn handed<M: Masters>(
     bench: &mut Bench<M, Pair<Gauge, Memory>>,
     number: usize,

@@ -23,6 +23,7 @@ fn asked(rt: &(impl Print + AllocGlobal)) -> anyhow::Result<bool> {
     let mut same = true;
     for question in QUESTIONS {
         println!(rt; "{}", question.what)?;
+        // Each pair of makes is a type of its own, so no table holds them.
         same &= contests::compare(rt, "line, line", Line::new(), Line::new(), question)?;
         same &= contests::compare(rt, "register, line", Driver::new(), Line::new(), question)?;
         same &= contests::compare(rt, "line, register", Line::new(), Driver::new(), question)?;

@@ -46,7 +46,7 @@ fn run(bench: &mut KeyBench, write: Order, read: Order) -> Result<u64, Refusal> 
     Ok(moved? as u64)
 }
 
-// Runs until the slots are moved: how many runs, and how many slots.
+// Runs until the slots are moved: how many runs, and how many slots. A `for`, so that it ends even where nothing moves.
 fn run_all(bench: &mut KeyBench) -> Result<(u64, u64), Refusal> {
     let write = order(80, 0, &[7; 32])?;
     let read = order(72, 1, &[])?;

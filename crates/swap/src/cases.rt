@@ -33,6 +33,7 @@ fn filled(segments: &[RawSegment], bytes: &[u8]) -> Result<Order, Refusal> {
     Ok(order)
 }
 
+// A Vec: no constant may call a function, and an array in a Result that holds a text has no proof yet.
 pub fn cases(heap: Global) -> anyhow::Result<Vec<Case>> {
     Ok(vec![in heap;
         Case {

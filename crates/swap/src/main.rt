@@ -15,6 +15,7 @@ fn run(rt: &(impl Print + AllocGlobal)) -> anyhow::Result<()> {
         println!(rt; "{}", case.name)?;
         let lines = play::played(heap, Line::new(), Line::new(), case)?;
         println!(rt; "  {lines}")?;
+        // Each pair of makes is a type of its own, so no table holds them.
         let left = play::played(heap, Driver::new(), Line::new(), case)?;
         let right = play::played(heap, Line::new(), Driver::new(), case)?;
         let both = play::played(heap, Driver::new(), Driver::new(), case)?;
