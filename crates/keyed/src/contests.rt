@@ -107,25 +107,17 @@ pub const QUESTIONS: [Question; 7] = [
 
 impl Ask {
     pub fn order(self) -> anyhow::Result<Order> {
+        let (address, direction, count, bytes): (u16, u16, u16, &[u8]) = match self {
+            Ask::Write { address, bytes } => (address, 0, u16::try_from(bytes.len())?, bytes),
+            Ask::Read { address, count } => (address, 1, count, &[]),
+        };
+        let segment = RawSegment {
+            address,
+            direction,
+            count,
+        };
         let mut order = Order::new();
-        match self {
-            Ask::Write { address, bytes } => order.fill(
-                &[RawSegment {
-                    address,
-                    direction: 0,
-                    count: u16::try_from(bytes.len())?,
-                }],
-                bytes,
-            )?,
-            Ask::Read { address, count } => order.fill(
-                &[RawSegment {
-                    address,
-                    direction: 1,
-                    count,
-                }],
-                &[],
-            )?,
-        }
+        order.fill(&[segment], bytes)?;
         Ok(order)
     }
 }
