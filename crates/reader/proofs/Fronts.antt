@@ -8,9 +8,9 @@ abbrev First : Bool → List ℕ → ℕ → Meaning → List Meaning → Bool �
 First b slots p w ws b' slots' p' = (later : List Meaning) × (ws ≡ w ∷ later) × Reads b' slots' p' later
 
 -- a byte's first slot carries a bit
-bit_first : (s xs ys : List ℕ) (x : ℕ) → x ∷ xs ≡ s ++ ys → length s ≡ 9 → Bits s → Bit x
-bit_first [] xs ys x e l b = absurd (omega arith)
-bit_first (y ∷ s) xs ys x e l b = let q : x ≡ y = cc in subst Bit (sym q) b.0
+pub first_bit : (slots s ys : List ℕ) → slots ≡ s ++ ys → length s ≡ 9 → Bits s → Bit (get_or slots 0 0)
+first_bit slots [] ys e l b = absurd (omega arith)
+first_bit slots (y ∷ s) ys e l b = subst Bit (sym (ap (λ (q : List ℕ). get_or q 0 0) e)) b.0
 
 pub not_bit_1 : Bit 1 → ⊥
 not_bit_1 (inl e) = omega arith
@@ -22,12 +22,12 @@ not_bit_2 (inr e) = omega arith
 
 pub at_start : (b : Bool) (xs : List ℕ) (p : ℕ) → Takes b (2 ∷ xs) p (start p) true xs (p + 1)
 at_start b xs p ws (begins {ws = later} r) = (later, refl, r)
-at_start true xs p ws (nine {xs = ys} s e l bits r) = absurd (not_bit_2 (bit_first s xs ys 2 e l bits))
+at_start true xs p ws (nine {xs = ys} s e l bits r) = absurd (not_bit_2 (first_bit (2 ∷ xs) s ys e l bits))
 
 pub at_stop : (b : Bool) (xs : List ℕ) (p : ℕ) → Takes b (1 ∷ xs) p (stop p) false xs (p + 1)
 at_stop false xs p ws r = elim r [ ]
 at_stop true xs p ws (ends {ws = later} r) = (later, refl, r)
-at_stop true xs p ws (nine {xs = ys} s e l bits r) = absurd (not_bit_1 (bit_first s xs ys 1 e l bits))
+at_stop true xs p ws (nine {xs = ys} s e l bits r) = absurd (not_bit_1 (first_bit (1 ∷ xs) s ys e l bits))
 
 pub at_free : (xs : List ℕ) (p : ℕ) (ws : List Meaning) → Reads false (3 ∷ xs) p ws → Reads false xs (p + 1) ws
 at_free xs p ws (free r) = r

@@ -13,7 +13,7 @@ use Rattle.bus.specs.declared.Turn.TheVariants.{Free, Address, AddressNinth, Bor
 use Rattle.bus.proofs.Slots.{busy_next, free_turn}
 use Rattle.reader.specs.Words.{Meaning, start, stop, byte, joined, Bit, Bits, Reads, end, free, begins, ends, nine}
 use Rattle.reader.specs.Records.{ranks, Recorded, Whole, used, InOrder, WordsOf}
-use Rattle.reader.proofs.Fronts.{at_start, at_stop, at_free, at_end, at_nine, not_bit_1, not_bit_2}
+use Rattle.reader.proofs.Fronts.{at_start, at_stop, at_free, at_end, at_nine, first_bit, not_bit_1, not_bit_2}
 
 -- the slots that are left of a byte under way
 abbrev slots_left : Turn → ℕ
@@ -162,10 +162,6 @@ whole_reads slots w =
     (r.0, subst (λ (ys : List ℕ). Reads false ys 0 r.0) (sym w.1.same) r.1)
 
 -- and only one list of them
-not_first : (s xs : List ℕ) (n : ℕ) → length s ≡ 9 → Bits s → (Bit n → ⊥) → get_or (s ++ xs) 0 0 ≡ n → ⊥
-not_first [] xs n l b ne e = omega arith
-not_first (y ∷ s) xs n l b ne e = ne (subst Bit e b.0)
-
 same_words : (b : Bool) (slots : List ℕ) (p : ℕ) (ws vs : List Meaning) → Reads b slots p ws → Reads b slots p vs → ws ≡ vs
 same_words b slots p ws vs end r = sym (at_end false p vs r)
 same_words b slots p ws vs (free {xs = xs} q) r = same_words false xs (p + 1) ws vs q (at_free xs p vs r)
@@ -177,8 +173,9 @@ same_words b slots p ws vs (ends {xs = xs} {ws = later} q) r =
     ap (λ (l : List Meaning). stop p ∷ l) (same_words false xs (p + 1) later t.0 q t.2) ∙ sym t.1
 same_words b slots p ws vs (nine {xs = xs} {ws = later} s e l bits q) r =
     let some : 0 < length slots = omega (arith, length-append s xs, ap length e) in
-    let two : get_or slots 0 0 ≡ 2 → ⊥ = λ z. not_first s xs 2 l bits not_bit_2 (sym (ap (λ (ys : List ℕ). get_or ys 0 0) e) ∙ z) in
-    let one : get_or slots 0 0 ≡ 1 → ⊥ = λ z. not_first s xs 1 l bits not_bit_1 (sym (ap (λ (ys : List ℕ). get_or ys 0 0) e) ∙ z) in
+    let bit = first_bit slots s xs e l bits in
+    let two : get_or slots 0 0 ≡ 2 → ⊥ = λ z. not_bit_2 (subst Bit z bit) in
+    let one : get_or slots 0 0 ≡ 1 → ⊥ = λ z. not_bit_1 (subst Bit z bit) in
     let t = (at_nine true slots p some (λ z. absurd (clash (sym z))) two one vs r).1 in
     let es : take 9 slots ≡ s = ap (take 9) e ∙ take_at s xs 9 l in
     let ex : drop 9 slots ≡ xs = ap (drop 9) e ∙ drop_at s xs 9 l in
