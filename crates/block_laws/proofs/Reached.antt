@@ -1,14 +1,12 @@
 -- The laws that hold since reset: Sound is kept by every write and every slot.
-use Rattle.std.proofs.Common.{◌≡◌, zero, suc, Bool, true, false, cond, not, ◌&&◌, ◌||◌, List, [], ◌∷◌, sym, refl, ap, ◌∙◌, arith}
+use Rattle.std.proofs.Common.{◌≡◌, Bool, true, false, cond, not, ◌&&◌, ◌||◌, List, [], ◌∷◌, sym, refl, ap, ◌∙◌, arith}
 use borrow.Author.Tests.{clash}
 use Rattle.std.proofs.lemmas.Bool.Decides.{nat_tests}
 use Rattle.bus.specs.declared.Symbol.{Symbol}
 use Rattle.bus.specs.declared.Symbol.TheVariants.{Zero, Stop, Start, One}
 use Rattle.bus.specs.Symbols.{is_bit}
-use Rattle.bus.specs.declared.Direction.TheVariants as direction
 use Rattle.bus.specs.declared.Turn.{Turn}
-use Rattle.bus.specs.declared.Turn.TheVariants.{Free, Address, AddressNinth, Border, Write, WriteNinth, Read, ReadNinth, ClosingBorder}
-use Rattle.bus.specs.Turns.{next, onward, masters_slot, busy}
+use Rattle.bus.specs.Turns.{next, masters_slot, busy}
 use Rattle.block.specs.declared.Block.{Block}
 use Rattle.block.specs.declared.Status.{Status}
 use Rattle.block.specs.declared.Task.{Task}
@@ -42,8 +40,7 @@ record Sound (b : Block) : Type 0 where
   clears : in_byte b.turn ≡ true → b.status.ackd0 ≡ false
 
 off_slot : (b : Block) (x : Symbol) (i : Bool) → i ≡ false → cond i (flags_after b x) no_flags ≡ no_flags
-off_slot b x true e = grind arith
-off_slot b x false e = refl
+off_slot b x i e = grind (arith, nat_tests)
 
 idle_slot : (b : Block) (x : Symbol) → b.control.iice0 ≡ false → b.status.msts0 ≡ false → b.task ≡ task.Rest → task_after b x ≡ task.Rest
 idle_slot b x e m t = grind (arith, nat_tests)
@@ -70,45 +67,10 @@ starts_slot b x = go (loss b x) (own_start b x) (is_bit x) (is_ninth b.turn) b.s
     go l s bit n m t = grind arith
 
 owns_slot : (b : Block) (x : Symbol) → (owned b.task ≡ true → b.status.msts0 ≡ true) → owned (task_after b x) ≡ true → (flags_after b x).msts0 ≡ true
-owns_slot b x = go (loss b x) (own_start b x) (is_bit x) (same x Stop) (is_ninth b.turn) b.status.msts0 b.task (bit_no_stop x)
-  where
-    go : (l s bit p n m : Bool) (t : Task) → (bit ≡ true → p ≡ false) → (owned t ≡ true → m ≡ true) → owned (passed_on l s bit n m t) ≡ true → flag s (p || l) m ≡ true
-    go l s bit p n m t g h e = grind arith
+owns_slot b x h e = grind (arith, nat_tests)
 
 clears_slot : (t : Turn) (x : Symbol) (a : Bool) → (in_byte t ≡ true → a ≡ false) → in_byte (next t x) ≡ true → flag (same x Zero && is_ninth t) ((is_bit x && first_of_address t) || ((is_bit x && first_of_data t) || same x Stop)) a ≡ false
-clears_slot t Stop a h e = absurd (clash e)
-clears_slot t Start a h e = absurd (clash e)
-clears_slot t Zero a h e = bit_zero t h e
-  where
-    bit_zero : (t : Turn) → (in_byte t ≡ true → a ≡ false) → in_byte (onward t Zero) ≡ true → flag (true && is_ninth t) (first_of_address t || (first_of_data t || false)) a ≡ false
-    bit_zero Free h e = absurd (clash e)
-    bit_zero (Address zero) h e = h refl
-    bit_zero (Address (suc n)) h e = grind (arith, nat_tests)
-    bit_zero (AddressNinth direction.Write) h e = absurd (clash e)
-    bit_zero (AddressNinth direction.Read) h e = absurd (clash e)
-    bit_zero Border h e = refl
-    bit_zero (Write zero) h e = h refl
-    bit_zero (Write (suc n)) h e = h refl
-    bit_zero WriteNinth h e = absurd (clash e)
-    bit_zero (Read zero) h e = h refl
-    bit_zero (Read (suc n)) h e = grind (arith, nat_tests)
-    bit_zero ReadNinth h e = absurd (clash e)
-    bit_zero ClosingBorder h e = absurd (clash e)
-clears_slot t One a h e = bit_one t h e
-  where
-    bit_one : (t : Turn) → (in_byte t ≡ true → a ≡ false) → in_byte (onward t One) ≡ true → flag false (first_of_address t || (first_of_data t || false)) a ≡ false
-    bit_one Free h e = absurd (clash e)
-    bit_one (Address zero) h e = h refl
-    bit_one (Address (suc n)) h e = grind (arith, nat_tests)
-    bit_one (AddressNinth d) h e = absurd (clash e)
-    bit_one Border h e = refl
-    bit_one (Write zero) h e = h refl
-    bit_one (Write (suc n)) h e = h refl
-    bit_one WriteNinth h e = absurd (clash e)
-    bit_one (Read zero) h e = h refl
-    bit_one (Read (suc n)) h e = grind (arith, nat_tests)
-    bit_one ReadNinth h e = absurd (clash e)
-    bit_one ClosingBorder h e = absurd (clash e)
+clears_slot t x a h e = grind (arith, nat_tests)
 
 sound_moved : (b : Block) (x : Symbol) → Sound b → Sound (moved_on b x)
 sound_moved b x h = record {

@@ -1,5 +1,5 @@
 -- A contender in its address byte. Assumes nothing.
-use Rattle.std.proofs.Common.{◌≡◌, ℕ, zero, suc, ◌-◌, ◌/◌, ◌^◌, Bool, true, false, cond, not, ◌&&◌, ◌||◌, eqb, ltb, List, length, sym, refl, ap, ◌∙◌, subst, arith, ltb-false, ltb-true, lt-ltb}
+use Rattle.std.proofs.Common.{◌≡◌, ℕ, zero, suc, ◌-◌, ◌/◌, ◌^◌, Bool, true, false, cond, not, ◌&&◌, ◌||◌, eqb, ltb, List, length, sym, refl, ap, ◌∙◌, subst, arith, ltb-false, ltb-true}
 use Rattle.std.proofs.lemmas.Bool.{cond-true, not-true}
 use borrow.Author.Tests.{clash, eqb_apart}
 use Rattle.bus.specs.declared.Symbol.{Symbol}
@@ -54,22 +54,10 @@ module _ (ss : Order) (r : Known) (b : Block) where
     own_at (suc n) = sym (own_address (here ss i) n)
 
     stepped : (n : ℕ) (x : Symbol) (s s' : ℕ) → is_bit x ≡ true → progress_at ss Address i j (next (turn.Address n) x) s' (R Address i j) ≡ script.hear (progress_at ss Address i j (turn.Address n) s (R Address i j)) x
-    stepped zero symbol.Zero s s' e = refl
-    stepped zero symbol.One s s' e = refl
-    stepped (suc zero) symbol.Zero s s' e = refl
-    stepped (suc zero) symbol.One s s' e = refl
-    stepped (suc (suc n)) symbol.Zero s s' e = refl
-    stepped (suc (suc n)) symbol.One s s' e = refl
-    stepped n symbol.Stop s s' e = absurd (clash e)
-    stepped n symbol.Start s s' e = absurd (clash e)
+    stepped n x s s' e = grind arith
 
     turned_on : (n : ℕ) (x : Symbol) (s : ℕ) → ltb n 8 ≡ true → same (bit (v / 2 ^ n)) x ≡ true → is_bit x ≡ true → turned ss (Contending Address i j) s (next (turn.Address n) x) ≡ true
-    turned_on zero symbol.Zero s e f g = sym (same_as (bit (v / 2 ^ 0)) (heading (here ss i)) symbol.Zero (own_direction (here ss i))) ∙ f
-    turned_on zero symbol.One s e f g = sym (same_as (bit (v / 2 ^ 0)) (heading (here ss i)) symbol.One (own_direction (here ss i))) ∙ f
-    turned_on (suc n) symbol.Zero s e f g = let z = ltb-true (suc n) 8 e in lt-ltb n 8 (omega arith)
-    turned_on (suc n) symbol.One s e f g = let z = ltb-true (suc n) 8 e in lt-ltb n 8 (omega arith)
-    turned_on n symbol.Stop s e f g = absurd (clash g)
-    turned_on n symbol.Start s e f g = absurd (clash g)
+    turned_on n x s e f g = grind arith
 
     address_kept : (n : ℕ) (x : Symbol) → ltb n 8 ≡ true → same (bit (v / 2 ^ n)) x ≡ true → is_bit x ≡ true → same x symbol.Stop ≡ false → is_stop x ≡ false
         → Kept (moved_on (P Address i j (turn.Address n)) x) (task.Send v) true → unacked (Contending Address i j) (next (turn.Address n) x) (moved_on (P Address i j (turn.Address n)) x).status.ackd0 ≡ true

@@ -16,7 +16,6 @@ use Rattle.block.specs.Flags.{loss}
 use Rattle.block.specs.Heard.{moved_on, bit_passed}
 use Rattle.driving.specs.Driving.{address_byte_of}
 use Rattle.driving_laws.specs.Tied.{patched}
-use Rattle.driving_laws.proofs.Lost.{task_mid, msts_mid, trc_mid}
 use native.Mathlib.Nat.{div-div-eq-div-mul, pow-succ'}
 
 pub same_as : (o y x : Symbol) → o ≡ y → same o x ≡ same y x
@@ -44,8 +43,7 @@ own_address s n = ap bit (half (address_byte_of s) (address_of s) n (halved s))
 
 -- a bit is no S or P
 plain_bit : (d : Bool) → (same (cond d symbol.Zero symbol.One) symbol.Start ≡ false) × (same (cond d symbol.Zero symbol.One) symbol.Stop ≡ false)
-plain_bit true = (refl, refl)
-plain_bit false = (refl, refl)
+plain_bit d = grind arith
 
 pub plain : (v n : ℕ) → (same (bit (v / 2 ^ n)) symbol.Start ≡ false) × (same (bit (v / 2 ^ n)) symbol.Stop ≡ false)
 plain v n = plain_bit (eqb (v / 2 ^ n % 2) 0)
@@ -55,8 +53,7 @@ becomes_kept true k x e = refl
 becomes_kept false k x e = absurd (clash e)
 
 pub becomes_lost : (c d : Bool) (k : masters.Contender) (x : Symbol) → c ≡ false → masters.waiting (masters.lost k.request) ≡ masters.becomes c d k x
-becomes_lost true d k x e = absurd (clash (sym e))
-becomes_lost false d k x e = refl
+becomes_lost c d k x e = grind arith
 
 pub record Kept (b : Block) (k : Task) (r : Bool) : Type 0 where
   pub task_kept : b.task ≡ k
@@ -65,10 +62,7 @@ pub record Kept (b : Block) (k : Task) (r : Bool) : Type 0 where
 
 pub kept : (b : Block) (t : Turn) (k : Task) (a r : Bool) (x : Symbol) → is_bit x ≡ true → loss (patched b t k a true r) x ≡ false → is_ninth t ≡ false → after_write t ≡ false → after_read t ≡ false → bit_passed k ≡ k
     → Kept (moved_on (patched b t k a true r) x) k r
-kept b t k a r symbol.Zero i l n w d p = record { task_kept = task_mid _ _ k l n p; msts_kept = msts_mid _ l; trc_kept = trc_mid _ (after_write t) (after_read t) r l w d }
-kept b t k a r symbol.One i l n w d p = record { task_kept = task_mid _ _ k l n p; msts_kept = msts_mid _ l; trc_kept = trc_mid _ (after_write t) (after_read t) r l w d }
-kept b t k a r symbol.Stop i l n w d p = absurd (clash i)
-kept b t k a r symbol.Start i l n w d p = absurd (clash i)
+kept b t k a r x e f g h i j = grind arith
 
 -- a reader's ninth slot gets 0 while more is wanted
 pub more_is : (j n : ℕ) (c : Bool) → ltb (j + 1) n ≡ c → cond c symbol.Zero symbol.One ≡ script.more (n - (j + 1))

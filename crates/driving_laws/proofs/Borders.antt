@@ -1,5 +1,5 @@
 -- A contender before its S, and before its P. Assumes nothing.
-use Rattle.std.proofs.Common.{◌≡◌, ℕ, suc, true, false, ltb, List, ◌∷◌, length, drop, sym, refl, ap, ◌∙◌, add-one, drop-cons, ltb-true}
+use Rattle.std.proofs.Common.{◌≡◌, ℕ, suc, true, false, ltb, List, ◌∷◌, length, drop, sym, refl, ap, ◌∙◌, add-one, drop-cons, ltb-true, arith}
 use borrow.Author.Tests.{clash}
 use Rattle.bus.specs.declared.Symbol.{Symbol}
 use Rattle.bus.specs.declared.Symbol.TheVariants as symbol
@@ -7,7 +7,7 @@ use Rattle.bus.specs.declared.Turn.{Turn}
 use Rattle.bus.specs.declared.Turn.TheVariants as turn
 use Rattle.bus.specs.Symbols.{is_stop}
 use Rattle.orders.specs.declared.Outcome.TheVariants.{NoAddress}
-use Rattle.orders.specs.Orders.{Segment, writing, reading, Order, address_of, nothing}
+use Rattle.orders.specs.Orders.{Segment, Order, address_of, nothing}
 use Rattle.scripts.specs.Scripts as script
 use Rattle.progress.specs.declared.Stage.TheVariants as stage
 use Rattle.progress.specs.Positions.{here, heading}
@@ -41,8 +41,7 @@ module _ (ss : Order) (r : Known) (b : Block) where
   -- its S before a further segment
   module _ (i j : ℕ) (here-is : ltb i (length ss) ≡ true) where
     opened : (s : Segment) (k : List script.Act) → script.spell 7 (address_of s) (script.say (heading s) ∷ script.ask (NoAddress i) ∷ payload i s k) ≡ script.body i s k
-    opened (writing a bs) k = refl
-    opened (reading a n) k = refl
+    opened s k = grind arith
 
     pub own_start_is : script.offer (script.plan i (drop i ss)) ≡ symbol.Start
     own_start_is = let z = ltb-true i (length ss) here-is in rw (drop-cons ss i nothing z) refl

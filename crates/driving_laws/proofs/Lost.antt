@@ -1,12 +1,11 @@
 -- A contender that loses, and one that goes on in a byte. Assumes nothing.
-use Rattle.std.proofs.Common.{◌≡◌, ℕ, Bool, true, false, cond, ◌&&◌, ◌||◌, sym, refl, subst}
+use Rattle.std.proofs.Common.{◌≡◌, ℕ, Bool, true, false, cond, ◌&&◌, ◌||◌, sym, refl, subst, arith}
 use Rattle.std.specs.Cmp.{first_so}
 use Rattle.std.proofs.lemmas.Bool.{not-true}
 use borrow.Author.Tests.{clash}
 use Rattle.bus.specs.declared.Symbol.{Symbol}
 use Rattle.bus.specs.declared.Symbol.TheVariants as symbol
 use Rattle.bus.specs.declared.Turn.{Turn}
-use Rattle.bus.specs.declared.Turn.TheVariants as turn
 use Rattle.bus.specs.Turns.{masters_slot}
 use Rattle.orders.specs.Orders.{Order}
 use Rattle.masters.specs.Standings as masters
@@ -17,9 +16,8 @@ use Rattle.block.specs.declared.Task.TheVariants as task
 use Rattle.block.specs.Slots.{same, after_write, after_read}
 use Rattle.block.specs.Tasks.{offers, waits, starts}
 use Rattle.block.specs.Flags.{loss, flag}
-use Rattle.block.specs.Heard.{moved_on, bit_passed}
+use Rattle.block.specs.Heard.{moved_on}
 use Rattle.driving.specs.declared.Phase.{Phase}
-use Rattle.driving.specs.declared.Phase.TheVariants.{Opening, Address, Write, Read, Stopping}
 use Rattle.driving.specs.States.{Waiting, Contending, Known}
 use Rattle.driving.specs.Driving.{heard_block, heard_known, loss_cleared, retried, with_standing, lost, ends}
 use Rattle.driving_laws.specs.Tied.{patched, tied, phase_task}
@@ -27,38 +25,18 @@ use Rattle.driving_laws.specs.Meaning.{standing_of}
 use Rattle.driving_laws.specs.Agreement.{Heard, Hears}
 use Rattle.driving_laws.proofs.Quiet.{Quiet, waits_on, heard_moves}
 
-no_and : (c : Bool) → (c && false) ≡ true → ⊥
-no_and true e = clash e
-no_and false e = clash e
-
 -- a loss in the slot after an address is no bit
 no_write : (t : Turn) (c : Bool) → (c && (masters_slot t || false)) ≡ true → after_write t ≡ false
-no_write turn.Free c e = refl
-no_write (turn.Address n) c e = refl
-no_write (turn.AddressNinth d) c e = absurd (no_and c e)
-no_write turn.Border c e = refl
-no_write turn.ClosingBorder c e = refl
-no_write (turn.Write n) c e = refl
-no_write turn.WriteNinth c e = refl
-no_write (turn.Read n) c e = refl
-no_write turn.ReadNinth c e = refl
+no_write t c e = grind arith
 
 task_lost : (l : Bool) (k : Task) → l ≡ true → cond l task.Rest k ≡ task.Rest
-task_lost true k e = refl
-task_lost false k e = absurd (clash e)
+task_lost l k e = grind arith
 
 flag_lost : (s c l m : Bool) → s ≡ false → l ≡ true → flag s (c || l) m ≡ false
-flag_lost true c l m e f = absurd (clash (sym e))
-flag_lost false c false m e f = absurd (clash f)
-flag_lost false true true m e f = refl
-flag_lost false false true m e f = refl
+flag_lost s c l m e f = grind arith
 
 trc_lost : (w d c l r : Bool) → w ≡ false → l ≡ true → flag (false || w) (d || (c || l)) r ≡ false
-trc_lost true d c l r e f = absurd (clash (sym e))
-trc_lost false d c false r e f = absurd (clash f)
-trc_lost false true c true r e f = refl
-trc_lost false false true true r e f = refl
-trc_lost false false false true r e f = refl
+trc_lost w d c l r e f = grind arith
 
 trc_start : (s w d c l r : Bool) → s ≡ false → w ≡ false → l ≡ true → flag (s || w) (d || (c || l)) r ≡ false
 trc_start true w d c l r g e f = absurd (clash (sym g))
@@ -91,28 +69,8 @@ lost_quiet b t k a r symbol.Start l =
       no_sender = trc_start _ false false false (loss P symbol.Start) r s refl l;
     }
 
--- inside a byte
-pub task_mid : (l n : Bool) (k : Task) → l ≡ false → n ≡ false → bit_passed k ≡ k → cond l task.Rest (cond n task.NinthWait (bit_passed k)) ≡ k
-task_mid true n k e f g = absurd (clash (sym e))
-task_mid false true k e f g = absurd (clash (sym f))
-task_mid false false k e f g = g
-
-pub msts_mid : (l : Bool) → l ≡ false → flag false l true ≡ true
-msts_mid true e = absurd (clash (sym e))
-msts_mid false e = refl
-
-pub trc_mid : (l w d r : Bool) → l ≡ false → w ≡ false → d ≡ false → flag w (d || l) r ≡ r
-trc_mid true w d r e f g = absurd (clash (sym e))
-trc_mid false true d r e f g = absurd (clash (sym f))
-trc_mid false false true r e f g = absurd (clash (sym g))
-trc_mid false false false r e f g = refl
-
 never_waits : (ss : Order) (p : Phase) (i j : ℕ) → waits (phase_task ss p i j) ≡ false
-never_waits ss Opening i j = refl
-never_waits ss Address i j = refl
-never_waits ss Write i j = refl
-never_waits ss Read i j = refl
-never_waits ss Stopping i j = refl
+never_waits ss p i j = grind arith
 
 module _ (ss : Order) (r : Known) (b : Block) where
   abbrev R : Phase → ℕ → ℕ → Known

@@ -6,7 +6,7 @@ use borrow.Author.Tests.{clash}
 use Rattle.bus.specs.declared.Symbol.{Symbol}
 use Rattle.bus.specs.declared.Turn.{Turn}
 use Rattle.bus.specs.declared.Turn.TheVariants as turn
-use Rattle.orders.specs.Orders.{Order, reads, count, Lawful}
+use Rattle.orders.specs.Orders.{Order, reads, Lawful}
 use Rattle.progress.specs.declared.Stage.TheVariants as stage
 use Rattle.progress.specs.Positions.{here}
 use Rattle.masters.specs.Standings as masters
@@ -22,7 +22,6 @@ use Rattle.progress.proofs.Room.{read_few, come_at}
 use Rattle.std.proofs.lemmas.List.{length_push}
 use Rattle.driving_laws.specs.Agreement.{Sound, Hears}
 use Rattle.driving_laws.proofs.Quiet.{idle_hears, answered_hears}
-use Rattle.driving_laws.proofs.Bits.{more_is}
 use Rattle.driving_laws.proofs.Waits.{waiting_hears}
 use Rattle.driving_laws.proofs.Address.{address_hears, own_at}
 use Rattle.driving_laws.proofs.Borders.{opening_hears, stopping_hears, own_start_is}
@@ -100,26 +99,10 @@ module _ (ss : Order) (law : Lawful ss) where
   offers_address i j turn.ClosingBorder b r l e = absurd (clash e)
 
   offers_write : (i j : ℕ) (t : Turn) (b : Block) (r : Known) → turned ss (Contending Write i j) b.shift t ≡ true → Offers (Contending Write i j) t b r
-  offers_write i j turn.Border b r e = refl
-  offers_write i j (turn.Write n) b r e = refl
-  offers_write i j turn.WriteNinth b r e = refl
-  offers_write i j turn.Free b r e = absurd (clash e)
-  offers_write i j (turn.Address n) b r e = absurd (clash e)
-  offers_write i j (turn.AddressNinth d) b r e = absurd (clash e)
-  offers_write i j (turn.Read n) b r e = absurd (clash e)
-  offers_write i j turn.ReadNinth b r e = absurd (clash e)
-  offers_write i j turn.ClosingBorder b r e = absurd (clash e)
+  offers_write i j t b r e = grind arith
 
   offers_read : (i j : ℕ) (t : Turn) (b : Block) (r : Known) → turned ss (Contending Read i j) b.shift t ≡ true → Offers (Contending Read i j) t b r
-  offers_read i j (turn.Read n) b r e = refl
-  offers_read i j turn.ReadNinth b r e = more_is j (count (here ss i)) _ refl
-  offers_read i j turn.Free b r e = absurd (clash e)
-  offers_read i j (turn.Address n) b r e = absurd (clash e)
-  offers_read i j (turn.AddressNinth d) b r e = absurd (clash e)
-  offers_read i j turn.Border b r e = absurd (clash e)
-  offers_read i j (turn.Write n) b r e = absurd (clash e)
-  offers_read i j turn.WriteNinth b r e = absurd (clash e)
-  offers_read i j turn.ClosingBorder b r e = absurd (clash e)
+  offers_read i j t b r e = grind arith
 
   offers_by : (st : Standing) (t : Turn) (b : Block) (r : Known) → turned ss st b.shift t ≡ true → real ss st ≡ true → Offers st t b r
   offers_by Idle t b r e l = refl

@@ -1,8 +1,7 @@
 -- A contender inside a byte. Assumes nothing.
-use Rattle.std.proofs.Common.{◌≡◌, ℕ, Bool, true, false, not, ◌&&◌, ◌||◌, sym, refl, ap, ◌∙◌, subst}
+use Rattle.std.proofs.Common.{◌≡◌, ℕ, Bool, true, false, not, ◌&&◌, ◌||◌, sym, refl, ap, ◌∙◌, subst, arith}
 use Rattle.std.proofs.lemmas.Bool.{cond-true}
 use Rattle.std.proofs.Math.Bool.{or-true}
-use borrow.Author.Tests.{clash}
 use Rattle.bus.specs.declared.Symbol.{Symbol}
 use Rattle.bus.specs.declared.Symbol.TheVariants as symbol
 use Rattle.bus.specs.declared.Turn.{Turn}
@@ -21,12 +20,10 @@ use Rattle.driving_laws.specs.Agreement.{Heard, Hears}
 use Rattle.driving_laws.proofs.Lost.{moved_goal}
 
 pub not_and : (c : Bool) → not (c && false) ≡ true
-not_and true = refl
-not_and false = refl
+not_and c = grind arith
 
 pub not_both : (c : Bool) → not (c && true) ≡ true → c ≡ false
-not_both true e = absurd (clash e)
-not_both false e = refl
+not_both c e = grind arith
 
 pub moving : (m : Block) (k : Task) → m.task ≡ k → has_byte k ≡ true → byte_moves m ≡ true
 moving m k e f = ap (λ (v : Task). in_byte m.turn || has_byte v) e ∙ ap (λ (v : Bool). in_byte m.turn || v) f ∙ or-true (in_byte m.turn)

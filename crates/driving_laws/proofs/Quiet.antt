@@ -1,10 +1,9 @@
 -- A block with nothing to do, and what the register master makes of it. Assumes nothing.
-use Rattle.std.proofs.Common.{◌≡◌, Bool, true, false, cond, [], sym, refl, ap, ◌∙◌, subst}
+use Rattle.std.proofs.Common.{◌≡◌, Bool, true, false, cond, [], sym, refl, ap, ◌∙◌, subst, arith}
 use borrow.Author.Tests.{clash}
 use Rattle.bus.specs.declared.Symbol.{Symbol}
 use Rattle.bus.specs.declared.Symbol.TheVariants as symbol
 use Rattle.bus.specs.declared.Turn.{Turn}
-use Rattle.bus.specs.declared.Turn.TheVariants as turn
 use Rattle.bus.specs.Symbols.{is_stop}
 use Rattle.bus.specs.Turns.{next}
 use Rattle.orders.specs.Orders.{Order}
@@ -15,7 +14,6 @@ use Rattle.block.specs.declared.Block.{Block}
 use Rattle.block.specs.declared.Control.{Control}
 use Rattle.block.specs.declared.Task.{Task}
 use Rattle.block.specs.declared.Task.TheVariants as task
-use Rattle.block.specs.Slots.{is_ninth}
 use Rattle.block.specs.Tasks.{waits}
 use Rattle.block.specs.Heard.{heard, moved_on}
 use Rattle.driving.specs.States.{Standing, Idle, Waiting, Answered, Known}
@@ -23,10 +21,6 @@ use Rattle.driving.specs.Driving.{loss_cleared, retried, renewed, begun, with_st
 use Rattle.driving_laws.specs.Tied.{patched, tied, task_of, acks_of, is_contending, sends_of}
 use Rattle.driving_laws.specs.Meaning.{standing_of}
 use Rattle.driving_laws.specs.Agreement.{Heard, Hears}
-
-pub same_arms : {A : Type 0} (c : Bool) (a : A) → cond c a a ≡ a
-same_arms true a = refl
-same_arms false a = refl
 
 abbrev pub lit : Bool → Control
 lit a = record { iice0 = true; spie0 = false; wtim0 = true; acke0 = a }
@@ -58,10 +52,7 @@ tie ss st b ec ek em er = rebuild b _ _ _ _ ec ek em er
 
 -- a 1 belongs to the byte unless a wait stands
 pub heard_moves : (b : Block) (x : Symbol) → waits b.task ≡ false → heard b x ≡ moved_on b x
-heard_moves b symbol.Zero e = refl
-heard_moves b symbol.Stop e = refl
-heard_moves b symbol.Start e = refl
-heard_moves b symbol.One e = rw e refl
+heard_moves b x e = grind arith
 
 -- a contender that has come so far, and its notes between two bytes
 abbrev pub contends : Order → Known → script.Progress → masters.Standing
@@ -78,10 +69,7 @@ pub record Quiet (b : Block) : Type 0 where
   pub no_sender : b.status.trc0 ≡ false
 
 pub quiet_heard : (b : Block) (t : Turn) (a : Bool) (x : Symbol) → Quiet (heard (patched b t task.Rest a false false) x)
-quiet_heard b t a symbol.Zero = record { lit_up = refl; rests = same_arms (is_ninth t) task.Rest; no_master = refl; no_sender = refl }
-quiet_heard b t a symbol.Stop = record { lit_up = refl; rests = refl; no_master = refl; no_sender = refl }
-quiet_heard b t a symbol.Start = record { lit_up = refl; rests = refl; no_master = refl; no_sender = refl }
-quiet_heard b t a symbol.One = record { lit_up = refl; rests = same_arms (is_ninth t) task.Rest; no_master = refl; no_sender = refl }
+quiet_heard b t a x = grind arith
 
 pub quiet_idle : (ss : Order) (b : Block) → Quiet b → b ≡ tied ss Idle b.turn b
 quiet_idle ss b q = tie ss Idle b q.lit_up q.rests q.no_master q.no_sender
@@ -126,15 +114,7 @@ abbrev Begins : Order → Block → Type 0
 Begins ss b = (begun b ≡ tied ss Waiting (begun b).turn (begun b)) × ((begun b).turn ≡ b.turn) × ((begun b).status.ald0 ≡ b.status.ald0)
 
 begun_is : (ss : Order) (b : Block) (t : Turn) (a : Bool) → Begins ss (patched b t task.Rest a false false)
-begun_is ss b turn.Free a = (refl, refl, refl)
-begun_is ss b (turn.Address n) a = (refl, refl, refl)
-begun_is ss b (turn.AddressNinth d) a = (refl, refl, refl)
-begun_is ss b turn.Border a = (refl, refl, refl)
-begun_is ss b (turn.Write n) a = (refl, refl, refl)
-begun_is ss b turn.WriteNinth a = (refl, refl, refl)
-begun_is ss b (turn.Read n) a = (refl, refl, refl)
-begun_is ss b turn.ReadNinth a = (refl, refl, refl)
-begun_is ss b turn.ClosingBorder a = (refl, refl, refl)
+begun_is ss b t a = grind arith
 
 pub quiet_begun : (ss : Order) (b : Block) → Quiet b → Begins ss b
 quiet_begun ss b q = subst (λ (v : Block). Begins ss v) (sym (quiet_idle ss b q)) (begun_is ss b b.turn b.control.acke0)

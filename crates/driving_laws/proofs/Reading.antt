@@ -53,10 +53,7 @@ module _ (ss : Order) (r : Known) (b : Block) where
     read_upset t x l k = lost_out ss r b Read i j t x (lost_quiet b t task.Receive _ false x l) refl (becomes_lost _ (is_stop x) _ x k)
 
     whole : (s : ℕ) (x : Symbol) → s < 128 → shifted s x ≡ 2 * s + value x
-    whole s symbol.Zero e = omega arith
-    whole s symbol.Stop e = omega arith
-    whole s symbol.Start e = omega arith
-    whole s symbol.One e = omega arith
+    whole s x e = grind arith
 
     small : (n s : ℕ) → in_read s (turn.Read n) ≡ true → s < 128
     small n s e =
@@ -64,21 +61,8 @@ module _ (ss : Order) (r : Known) (b : Block) where
         let g : 2 ^ (7 - n) ≤ 2 ^ 7 = pow_mono {i = 7 - n} {j = 7} (omega arith) in
         omega arith
 
-    last_bit : (x : Symbol) (s : ℕ) → shifted s x ≡ 2 * s + value x
-        → record { todo = todo_at ss i (stage.ReadNinth j); notes = record { bytes = r.bytes ++ (shifted s x ∷ []); part = 0; outcome = r.outcome } } ≡ script.hear (progress_at ss Read i j (turn.Read 0) s (R Read i j)) x
-    last_bit x s e = ap (λ (m : ℕ). record { todo = todo_at ss i (stage.ReadNinth j); notes = record { bytes = r.bytes ++ (m ∷ []); part = 0; outcome = r.outcome } }) e
-
-    inner_bit : (n : ℕ) (x : Symbol) (s : ℕ) → shifted s x ≡ 2 * s + value x
-        → record { todo = todo_at ss i (stage.Read j n); notes = record { bytes = r.bytes; part = shifted s x; outcome = r.outcome } } ≡ script.hear (progress_at ss Read i j (turn.Read (suc n)) s (R Read i j)) x
-    inner_bit n x s e = ap (λ (m : ℕ). record { todo = todo_at ss i (stage.Read j n); notes = record { bytes = r.bytes; part = m; outcome = r.outcome } }) e
-
     listened : (n s : ℕ) (x : Symbol) → is_bit x ≡ true → shifted s x ≡ 2 * s + value x → progress_at ss Read i j (next (turn.Read n) x) (shifted s x) (R Read i j) ≡ script.hear (progress_at ss Read i j (turn.Read n) s (R Read i j)) x
-    listened zero s symbol.Zero f e = last_bit symbol.Zero s e
-    listened zero s symbol.One f e = last_bit symbol.One s e
-    listened (suc n) s symbol.Zero f e = inner_bit n symbol.Zero s e
-    listened (suc n) s symbol.One f e = inner_bit n symbol.One s e
-    listened n s symbol.Stop f e = absurd (clash f)
-    listened n s symbol.Start f e = absurd (clash f)
+    listened n s x e f = grind arith
 
     grown : (n s : ℕ) (x : Symbol) → in_read s (turn.Read (suc n)) ≡ true → in_read (shifted s x) (turn.Read n) ≡ true
     grown n s x e =

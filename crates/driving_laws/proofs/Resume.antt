@@ -49,15 +49,7 @@ module _ (ss : Order) (b : Block) (a : Bool) (i : ℕ) (here-is : ltb i (length 
   not_stopped x m e = rw e refl
 
   begun_waiting : (r : Bool) (t : Turn) → begun (waiting_block b t a r) ≡ patched b t task.Start false true r
-  begun_waiting r turn.Free = refl
-  begun_waiting r (turn.Address n) = refl
-  begun_waiting r (turn.AddressNinth d) = refl
-  begun_waiting r turn.Border = refl
-  begun_waiting r (turn.Write n) = refl
-  begun_waiting r turn.WriteNinth = refl
-  begun_waiting r (turn.Read n) = refl
-  begun_waiting r turn.ReadNinth = refl
-  begun_waiting r turn.ClosingBorder = refl
+  begun_waiting r t = grind arith
 
   -- after the segment
   resume_past : (r : Bool) (t : Turn) → at_border t ≡ true → Resumed ss t (others ss i) (standing_past ss i) (block_past ss i (waiting_block b t a r))
@@ -195,10 +187,7 @@ module _ (ss : Order) (b : Block) (a : Bool) (i : ℕ) (here-is : ltb i (length 
       (subst (λ (v : List script.Act). Resumed ss turn.ClosingBorder v (standing_past ss i) (block_past ss i m)) ek (resume_past r turn.ClosingBorder refl)))
 
 not_stop : (x : Symbol) → same x symbol.Stop ≡ false → is_stop x ≡ false
-not_stop symbol.Zero e = refl
-not_stop symbol.Stop e = absurd (clash (sym e))
-not_stop symbol.Start e = refl
-not_stop symbol.One e = refl
+not_stop x e = grind arith
 
 -- a wait answered in the slot that made it
 pub resumed_hears : (ss : Order) (r₀ r : Known) (b : Block) (x : Symbol) (t : Turn) (k : List script.Act) (st : Standing) (b' : Block)

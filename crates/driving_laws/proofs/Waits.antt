@@ -6,7 +6,7 @@ use Rattle.bus.specs.declared.Symbol.TheVariants as symbol
 use Rattle.bus.specs.declared.Turn.{Turn}
 use Rattle.bus.specs.declared.Turn.TheVariants as turn
 use Rattle.orders.specs.declared.Outcome.TheVariants.{NoAddress}
-use Rattle.orders.specs.Orders.{Segment, writing, reading, Order, address_of}
+use Rattle.orders.specs.Orders.{Segment, Order, address_of}
 use Rattle.scripts.specs.Scripts as script
 use Rattle.progress.specs.Positions.{heading}
 use Rattle.progress.specs.Plans.{payload}
@@ -27,8 +27,7 @@ module _ (s : Segment) (ss : Order) (r : Known) (b : Block) where
   all = s ∷ ss
 
   opened : (z : Segment) → script.spell 7 (address_of z) (script.say (heading z) ∷ script.ask (NoAddress 0) ∷ payload 0 z (script.plan 1 ss)) ≡ script.body 0 z (script.plan 1 ss)
-  opened (writing a bs) = refl
-  opened (reading a n) = refl
+  opened z = grind arith
 
   waits_busy : (t : Turn) (x : Symbol) (q : Quiet (heard (patched b t task.Rest b.control.acke0 false false) x))
       → standing_of all (with_standing r Waiting) (heard (patched b t task.Rest b.control.acke0 false false) x) ≡ hears t x (standing_of all (with_standing r Waiting) (patched b t task.Rest b.control.acke0 false false))

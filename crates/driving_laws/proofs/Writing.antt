@@ -1,5 +1,5 @@
 -- A contender in a byte that it writes. Assumes nothing.
-use Rattle.std.proofs.Common.{◌≡◌, ℕ, zero, suc, ◌+◌, ◌/◌, ◌^◌, Bool, true, false, cond, not, ◌&&◌, ltb, List, length, get_or, sym, refl, ap, ◌∙◌, subst, arith, ltb-true, lt-ltb}
+use Rattle.std.proofs.Common.{◌≡◌, ℕ, ◌+◌, ◌/◌, ◌^◌, Bool, true, false, cond, not, ◌&&◌, ltb, List, length, get_or, sym, refl, ap, ◌∙◌, subst, arith}
 use Rattle.std.proofs.lemmas.Bool.{cond-true, not-true}
 use borrow.Author.Tests.{clash}
 use Rattle.bus.specs.declared.Symbol.{Symbol}
@@ -48,25 +48,7 @@ module _ (ss : Order) (r : Known) (b : Block) where
     v = get_or (bytes_of (here ss i)) j 0
 
     wrote : (t : Turn) (x : Symbol) (s s' : ℕ) → in_write t ≡ true → is_bit x ≡ true → is_ninth t ≡ false → progress_at ss Write i j (next t x) s' (R Write i j) ≡ script.hear (progress_at ss Write i j t s (R Write i j)) x
-    wrote turn.Border symbol.Zero s s' e f g = refl
-    wrote turn.Border symbol.One s s' e f g = refl
-    wrote (turn.Write zero) symbol.Zero s s' e f g = refl
-    wrote (turn.Write zero) symbol.One s s' e f g = refl
-    wrote (turn.Write (suc n)) symbol.Zero s s' e f g = refl
-    wrote (turn.Write (suc n)) symbol.One s s' e f g = refl
-    wrote turn.Border symbol.Stop s s' e f g = absurd (clash f)
-    wrote turn.Border symbol.Start s s' e f g = absurd (clash f)
-    wrote (turn.Write zero) symbol.Stop s s' e f g = absurd (clash f)
-    wrote (turn.Write zero) symbol.Start s s' e f g = absurd (clash f)
-    wrote (turn.Write (suc n)) symbol.Stop s s' e f g = absurd (clash f)
-    wrote (turn.Write (suc n)) symbol.Start s s' e f g = absurd (clash f)
-    wrote turn.WriteNinth x s s' e f g = absurd (clash (sym g))
-    wrote turn.Free x s s' e f g = absurd (clash e)
-    wrote (turn.Address n) x s s' e f g = absurd (clash e)
-    wrote (turn.AddressNinth d) x s s' e f g = absurd (clash e)
-    wrote (turn.Read n) x s s' e f g = absurd (clash e)
-    wrote turn.ReadNinth x s s' e f g = absurd (clash e)
-    wrote turn.ClosingBorder x s s' e f g = absurd (clash e)
+    wrote t x s s' e f g = grind arith
 
     write_kept : (t : Turn) (n : ℕ) (x : Symbol) → in_write t ≡ true → is_ninth t ≡ false → masters_slot t ≡ true → script.offer (todo_at ss i (write_stage j t)) ≡ bit (v / 2 ^ n) → same (bit (v / 2 ^ n)) x ≡ true
         → is_bit x ≡ true → same x symbol.Stop ≡ false → is_stop x ≡ false
@@ -102,12 +84,7 @@ module _ (ss : Order) (r : Known) (b : Block) where
     still_unacked c false e = not_and c
 
     turned_write : (n : ℕ) (x : Symbol) → ltb n 7 ≡ true → is_bit x ≡ true → in_write (next (turn.Write n) x) ≡ true
-    turned_write zero symbol.Zero e f = refl
-    turned_write zero symbol.One e f = refl
-    turned_write (suc n) symbol.Zero e f = let z = ltb-true (suc n) 7 e in lt-ltb n 7 (omega arith)
-    turned_write (suc n) symbol.One e f = let z = ltb-true (suc n) 7 e in lt-ltb n 7 (omega arith)
-    turned_write n symbol.Stop e f = absurd (clash f)
-    turned_write n symbol.Start e f = absurd (clash f)
+    turned_write n x e f = grind arith
 
     write_bit : (n : ℕ) (x : Symbol) → ltb n 7 ≡ true → not b.status.ackd0 ≡ true → Goal Write i j (turn.Write n) x
     write_bit n x e ua = go (same (bit (v / 2 ^ n)) x) refl
