@@ -1,5 +1,5 @@
 -- The law of contests, from what is seen of a bench. Assumes nothing.
-use Rattle.std.proofs.Common.{◌≡◌, ℕ, zero, suc, ◌+◌, ◌*◌, ◌<◌, ◌≤◌, min, Bool, true, false, List, [], ◌∷◌, ◌++◌, map, length, get_or, sym, refl, ap, ◌∙◌, subst, ap₂, append_assoc, append-nil, arith}
+use Rattle.std.proofs.Common.{◌≡◌, ℕ, zero, suc, ◌*◌, ◌≤◌, Bool, true, false, List, [], ◌∷◌, ◌++◌, map, length, get_or, sym, refl, ap, ◌∙◌, subst, append_assoc, append-nil, arith}
 use mathlib.Core.List.{map-append}
 use borrow.Author.Tests.{clash}
 use Rattle.bus.specs.declared.Symbol.{Symbol}
@@ -8,14 +8,13 @@ use Rattle.bus.specs.declared.Turn.TheVariants.{Free}
 use Rattle.history.specs.Marks.{Less}
 use Rattle.history.specs.Contest.{Then, EndsOnce}
 use Rattle.bus.specs.Symbols.{symbols, rank, is_stop}
-use Rattle.bus.specs.Turns.{next, busy, bus}
+use Rattle.bus.specs.Turns.{next, bus}
 use Rattle.orders.specs.Orders.{Answer}
 use Rattle.scripts.specs.Alone.{AloneHistory, answer_of}
-use Rattle.masters.specs.Standings.{Request, Contender, Standing, idle, waiting, contending, answered}
+use Rattle.masters.specs.Standings.{Request, Contender, Standing, idle, contending, answered}
 use Rattle.law.proofs.One.{all_waits}
 use Rattle.law.proofs.One as one
 use Rattle.law.proofs.OneLaw as one-law
-use Rattle.law.proofs.OneSlot.{Sound}
 use Rattle.law.proofs.OneFair.{Linked, linked_calls, fair_contest}
 use Rattle.law.proofs.OneServed.{all_served}
 use Rattle.law.proofs.OneKeeping.{answers_keep}
@@ -23,10 +22,10 @@ use Rattle.bus.specs.Banks.{Bank, Single, Both, each, All}
 use Rattle.bus.proofs.Banks.{ask_listed}
 use Rattle.masters.specs.Master as m
 use Rattle.masters.specs.Master.{Master, somebody_waits}
-use Rattle.slaves.specs.Slave.{Slave, Well, replies}
+use Rattle.slaves.specs.Slave.{Slave, Well}
 use Rattle.law.specs.Model.{Model, assembled, standing, Slot}
 use Rattle.law.specs.Calls.{Call, does, moves, final, slots, symbols_of, ranks}
-use Rattle.law.specs.Law.{bus_after, ended, Finished, history, slaves_then, Contends, HasAlone, FairContest, orders_waiting, WithoutPlace, WithoutCollect, Law, Continued, Continues}
+use Rattle.law.specs.Law.{bus_after, ended, Finished, history, slaves_then, Contends, HasAlone, FairContest, orders_waiting, WithoutPlace, WithoutCollect, Law, Continues}
 use Rattle.law.proofs.Views.{standings, view, waiting_view, somebody_true, bank_polite, well_freed, at_first}
 use Rattle.law.proofs.Mirror.{Good, see, seen, on_to, seen_append, Mirror, mirror, busy_waits}
 

@@ -1,18 +1,18 @@
 -- What a list of calls does to a bench of banks, a list of calls does to what is seen of it. Assumes nothing.
-use Rattle.std.proofs.Common.{◌≡◌, ℕ, zero, suc, ◌+◌, ◌<◌, ◌≤◌, Bool, true, false, cond, not, ◌&&◌, eqb, ltb, leb, List, [], ◌∷◌, ◌++◌, map, sym, refl, ap, ◌∙◌, subst, ap₂, arith, ltb-false, ne_eqb, le-leb}
+use Rattle.std.proofs.Common.{◌≡◌, ℕ, zero, suc, ◌≤◌, Bool, true, false, cond, not, ◌&&◌, eqb, ltb, List, [], ◌∷◌, ◌++◌, sym, refl, ap, ◌∙◌, subst, ap₂, arith, ltb-false, ne_eqb, le-leb}
 use Rattle.bus.specs.declared.Symbol.{Symbol}
 use Rattle.bus.specs.declared.Turn.{Turn}
 use Rattle.bus.specs.declared.Turn.TheVariants.{Free}
 use Rattle.history.specs.Contest.{turn_after, Follows, Polite}
 use Rattle.bus.specs.Turns.{next, legal, busy, bus}
-use Rattle.masters.specs.Standings.{Standing, idle, contending, placed, withdrawn, collected}
+use Rattle.masters.specs.Standings.{Standing, placed, withdrawn, collected}
 use Rattle.bus.proofs.Slots.{free_turn}
 use Rattle.law.proofs.One.{all_waits, waits}
 use Rattle.law.proofs.One as one
 use Rattle.law.proofs.OneLaw as one-law
 use Rattle.law.proofs.OneSlot.{Sound, sound_moved, always_legal}
 use Rattle.law.proofs.OneServed.{sound_call, one_of}
-use Rattle.bus.specs.Banks.{Bank, All, alter}
+use Rattle.bus.specs.Banks.{Bank, All}
 use Rattle.bus.proofs.Banks.{all_alter, alter_same, alter_none}
 use Rattle.orders.specs.declared.order.Order.{Order}
 use Rattle.masters.specs.Master as m
@@ -22,7 +22,7 @@ use Rattle.orders.proofs.Parts.{lawful_is}
 use Rattle.slaves.specs.Slave as s
 use Rattle.slaves.specs.Slave.{Slave, Told, Well, befallen, settle, replies}
 use Rattle.law.specs.Model.{Model, carried, moved, resting, Slot, slot, run_slots, ran}
-use Rattle.law.specs.Calls.{Call, Place, Withdraw, Tell, Step, Run, Collect, run_if, does, moves, final, slots, symbols_of}
+use Rattle.law.specs.Calls.{Call, Place, Withdraw, Tell, Step, Run, Collect, does, moves, final, slots, symbols_of}
 use Rattle.law.specs.Law.{WithoutPlace, WithoutCollect}
 use Rattle.law.proofs.Views.{standings, view, MasterAt, SlaveAt, At, alter_view, nobody_view, bank_polite, well_heard, well_tell, at_tell, carried_view, at_moved, moved_view}
 

@@ -1,6 +1,6 @@
 -- What is seen of a bench whose parts all stand at one turn: that turn, a list of standings and one reply rule; and calls on it.
 -- The contest argument goes by this; Views ties it to the banks of a bench. Assumes nothing.
-use Rattle.std.proofs.Common.{◌≡◌, ℕ, zero, suc, ◌+◌, min, Bool, true, false, cond, not, ◌&&◌, eqb, leb, List, [], ◌∷◌, ◌++◌, map, replicate}
+use Rattle.std.proofs.Common.{ℕ, zero, suc, ◌+◌, Bool, cond, not, ◌&&◌, eqb, leb, List, [], ◌∷◌, ◌++◌, map, replicate}
 use mathlib.Core.Option.{Option, none, some}
 use Rattle.history.specs.Marks.{least}
 use Rattle.history.specs.Contest.{Rule, on, stays, Polite}

@@ -1,13 +1,11 @@
 -- Banks: two make one. A slaves' bank offers the least of both, a masters' bank numbers the left first. Assumes nothing.
-use Rattle.std.proofs.Common.{◌≡◌, ℕ, zero, suc, ◌+◌, ◌<◌, ◌≤◌, min, true, ◌⊎◌, List, [], ◌∷◌, ◌++◌, map, length, sym, refl, ap, ◌∙◌, inl, inr, suc-add, zero-add, arith}
-use mathlib.Core.List.{map-append}
+use Rattle.std.proofs.Common.{◌≡◌, ℕ, zero, suc, ◌+◌, ◌<◌, min, List, [], ◌∷◌, ◌++◌, length, sym, refl, ap, ◌∙◌, inl, inr, suc-add, zero-add, arith}
 use Rattle.history.specs.Marks.{Marks, least}
 use Rattle.history.specs.Contest.{Rule, Turns, Polite}
-use Rattle.bus.specs.declared.Symbol.{Symbol}
 use Rattle.bus.specs.Symbols.{symbols}
 use Rattle.bus.specs.declared.Turn.{Turn}
 use Rattle.masters.specs.Standings.{Standing, contender_in, offered}
-use Rattle.law.proofs.One.{least_offer, waits, all_waits, alter}
+use Rattle.law.proofs.One.{least_offer, all_waits, alter}
 use Rattle.history.proofs.General.{least_left, least_right, least_either, least_le}
 
 module _ {M : Type 0} (m : Marks M) where

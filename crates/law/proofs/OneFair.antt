@@ -1,28 +1,27 @@
 -- Finished contests are fair. Assumes nothing.
-use Rattle.std.proofs.Common.{◌≡◌, ℕ, zero, suc, ◌+◌, ◌*◌, ◌<◌, ◌≤◌, Bool, true, false, cond, eqb, leb, ◌⊎◌, List, [], ◌∷◌, ◌++◌, map, length, get_or, replicate, sym, refl, ap, ◌∙◌, subst, ap₂, inl, inr, suc-le-suc, zero-le, arith}
+use Rattle.std.proofs.Common.{◌≡◌, ℕ, zero, suc, Bool, true, false, cond, leb, ◌⊎◌, List, [], ◌∷◌, ◌++◌, map, get_or, replicate, sym, refl, ap, ◌∙◌, subst, ap₂, inl, inr, arith}
 use mathlib.Core.Path.{subst₃, fun_ext}
 use mathlib.Core.Option.{Option, none, some}
 use borrow.Author.Tests.{clash}
-use Rattle.history.specs.Marks.{Marks, least, Less}
-use Rattle.history.specs.Contest.{Rule, on, stays, Survives, Polite, Keeps, Then, Alone, Carried, heard, Contest, FairStart, Fair}
+use Rattle.history.specs.Marks.{Less}
+use Rattle.history.specs.Contest.{Rule, on, stays, Survives, Polite, Then, Alone, heard, Contest, Fair}
 use Rattle.bus.specs.declared.Symbol.{Symbol}
-use Rattle.bus.specs.declared.Symbol.TheVariants.{Zero, Stop, Start, One}
+use Rattle.bus.specs.declared.Symbol.TheVariants.{Start, One}
 use Rattle.bus.specs.Symbols.{symbols, is_stop}
 use Rattle.bus.specs.declared.Turn.{Turn}
 use Rattle.bus.specs.declared.Turn.TheVariants.{Free}
 use Rattle.bus.specs.Turns.{next, busy, bus}
-use Rattle.orders.specs.Orders.{Order, Lawful, Answer}
+use Rattle.orders.specs.Orders.{Order, Lawful}
 use Rattle.orders.specs.declared.Outcome.{Outcome}
-use Rattle.scripts.specs.Scripts.{Progress, begin, offer, hear, after, script, answer}
+use Rattle.scripts.specs.Scripts.{begin, offer, after, script, answer}
 use Rattle.masters.specs.Standings.{Request, Contender, Standing, idle, waiting, contending, answered, starting, contender_in, lost, becomes, placed, withdrawn, collected}
 use Rattle.bus.proofs.Slots.{free_turn}
-use Rattle.law.proofs.One.{Bench, told, hears, carried, moved, Call, place, withdraw, tell, step, run, collect, alter, with_masters, with_rule, at_rest, ran, after_call, Slot, slot, run_slots, call_slots, slots, final, assembled}
+use Rattle.law.proofs.One.{Bench, hears, carried, moved, Call, place, withdraw, tell, step, run, collect, alter, with_masters, with_rule, at_rest, ran, after_call, Slot, slot, run_slots, call_slots, slots}
 use Rattle.scripts.specs.Alone.{AloneHistory, answer_of}
-use Rattle.law.proofs.OneLaw.{Closes, ended, Finished, history, slaves, Contends, standing, FairContest}
-use Rattle.history.proofs.General.{fair, then_both, is_in}
-use Rattle.scripts.proofs.Plans.{Fits}
+use Rattle.law.proofs.OneLaw.{Closes, ended, Finished, FairContest}
+use Rattle.history.proofs.General.{fair}
 use Rattle.scripts.proofs.Tells.{tells}
-use Rattle.law.proofs.OneSlot.{at, Holds, Sound, Somebody, family, as_script, as_script_is, staked_is, staked_free, staked_busy, hears_staked, hears_unstaked, at_moved, slot_carried, fair_start, onward, goes_on, freed, sound_moved, not_some, not_waiting, somebody, nobody_high}
+use Rattle.law.proofs.OneSlot.{at, Holds, Sound, Somebody, family, as_script, as_script_is, staked_is, staked_free, staked_busy, hears_staked, hears_unstaked, at_moved, slot_carried, fair_start, onward, goes_on, sound_moved, somebody, nobody_high}
 
 -- a standing that a call other than step and run may leave, while a contest is under way
 abbrev pub Rests : Standing → Type 0
@@ -462,19 +461,6 @@ at_first : (n i : ℕ) → get_or (replicate n idle) i idle ≡ idle
 at_first zero i = refl
 at_first (suc n) zero = refl
 at_first (suc n) (suc i) = at_first n i
-
-pub sound_assembled : (n : ℕ) (r : Rule Symbol) → Polite bus Free r → Sound (assembled n r)
-sound_assembled n r p = record {
-  polite = p;
-  lawful = λ i. rw (at_first n i) tt;
-  fits = λ i k e. absurd (never i k e);
-  held = λ u. absurd (clash u);
-  calm = λ u i k e. never i k e;
-  short = λ i k e. absurd (never i k e);
-}
-  where
-    never : (i : ℕ) (k : Contender) → get_or (replicate n idle) i idle ≡ contending k → ⊥
-    never i k e = let f = at_first n i in let z : ◌≡◌ {A = ℕ} 0 1 = cc in omega arith
 
 not_start : (x : Symbol) → x ≡ One → x ≡ Start → ⊥
 not_start x p q = let z : ◌≡◌ {A = ℕ} 0 1 = cc in omega arith

@@ -1,5 +1,5 @@
 -- An answer stands until it is collected. Assumes nothing.
-use Rattle.std.proofs.Common.{◌≡◌, ℕ, zero, suc, Bool, true, false, cond, leb, List, [], ◌∷◌, get_or, sym, refl, ap, ◌∙◌, arith}
+use Rattle.std.proofs.Common.{◌≡◌, ℕ, zero, suc, Bool, true, false, cond, leb, List, [], ◌∷◌, get_or, refl, ap, ◌∙◌, arith}
 use Rattle.bus.specs.Turns.{busy}
 use Rattle.orders.specs.Orders.{Answer}
 use Rattle.masters.specs.Standings.{Standing, idle, waiting, contending, answered, placed, withdrawn, collected}

@@ -1,21 +1,19 @@
 -- Every order that waits is served within `longest` slots for each. Assumes nothing.
-use Rattle.std.proofs.Common.{◌≡◌, ℕ, zero, suc, ◌+◌, ◌-◌, ◌*◌, ◌<◌, ◌≤◌, Bool, true, false, cond, leb, ◌⊎◌, List, [], ◌∷◌, ◌++◌, map, length, get_or, sym, refl, ap, ◌∙◌, subst, inl, inr, suc-le-suc, zero-le, arith, length-append}
+use Rattle.std.proofs.Common.{◌≡◌, ℕ, zero, suc, ◌+◌, ◌-◌, ◌*◌, ◌≤◌, Bool, true, false, cond, leb, List, [], ◌∷◌, ◌++◌, map, length, get_or, sym, refl, ap, ◌∙◌, inl, inr, zero-le, arith, length-append}
 use mathlib.Core.Option.{Option, none, some}
 use borrow.Author.Tests.{clash}
-use Rattle.history.specs.Contest.{Rule, stays, Polite}
+use Rattle.history.specs.Contest.{stays}
 use Rattle.bus.specs.declared.Symbol.{Symbol}
 use Rattle.bus.specs.declared.Turn.{Turn}
-use Rattle.bus.specs.declared.Turn.TheVariants.{Free}
-use Rattle.bus.specs.Turns.{next, busy, bus}
+use Rattle.bus.specs.Turns.{busy, bus}
 use Rattle.bus.specs.Symbols.{is_stop}
-use Rattle.orders.specs.Orders.{Order}
 use Rattle.scripts.specs.Alone.{longest}
-use Rattle.scripts.specs.Scripts.{begin, offer, hear}
-use Rattle.masters.specs.Standings.{Request, Contender, Standing, idle, waiting, contending, answered, starting, contender_in, becomes, withdrawn, collected}
+use Rattle.scripts.specs.Scripts.{offer}
+use Rattle.masters.specs.Standings.{Contender, Standing, idle, waiting, contending, answered, starting, contender_in, becomes, withdrawn, collected}
 use Rattle.law.proofs.One.{Bench, hears, carried, moved, waits, all_waits, orders_waiting, Call, place, withdraw, tell, step, run, collect, alter, with_masters, with_rule, at_rest, ran, after_call, slot, run_slots, call_slots, slots, final}
 use Rattle.law.proofs.OneLaw.{WithoutPlace}
 use Rattle.scripts.proofs.Plans.{shorter}
-use Rattle.law.proofs.OneSlot.{at, Sound, Somebody, Nobody, somebody, staked_is, hears_staked, hears_unstaked, at_moved, contending_after, onward, stayer, freed, goes_on, free_start, nobody_free, sound_moved, fits_staked, short_staked, staked_nonempty, staked_free, not_some}
+use Rattle.law.proofs.OneSlot.{at, Sound, Somebody, Nobody, somebody, staked_is, hears_staked, hears_unstaked, at_moved, contending_after, onward, stayer, goes_on, free_start, nobody_free, sound_moved, fits_staked, short_staked, staked_nonempty, staked_free, not_some}
 use Rattle.law.proofs.OneFair.{quiet_place, quiet_withdraw, quiet_tell, quiet_collect, Steady, same_steady, withdrawn_steady, collected_steady, alter_kept, after_slot}
 
 -- how many wait, over a list

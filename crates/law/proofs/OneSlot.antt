@@ -1,25 +1,22 @@
 -- What every bench keeps, slot by slot. Assumes nothing.
-use Rattle.std.proofs.Common.{◌≡◌, ℕ, zero, suc, ◌+◌, ◌*◌, ◌<◌, ◌≤◌, Bool, true, false, cond, eqb, leb, ◌⊎◌, List, [], ◌∷◌, ◌++◌, map, length, get_or, sym, refl, ap, ◌∙◌, subst, inl, inr, suc-le-suc, zero-le, arith, eq-eqb, eqb-true, leb-false, leb-true}
-use mathlib.Core.Path.{fun_ext}
+use Rattle.std.proofs.Common.{◌≡◌, ℕ, zero, suc, ◌≤◌, Bool, true, false, cond, ◌⊎◌, List, [], ◌∷◌, length, get_or, sym, refl, ap, ◌∙◌, inl, inr, arith}
 use mathlib.Core.Option.{Option, none, some}
 use lib.ListN.{get_or-map}
 use borrow.Author.Tests.{clash}
-use Rattle.history.specs.Marks.{Marks, least}
-use Rattle.history.specs.Contest.{Rule, on, Turns, turn_after, Follows, stays, Survives, Polite, Keeps, Then, Alone, Carried, heard, Contest, FairStart, Fair}
+use Rattle.history.specs.Contest.{Rule, stays, Polite, Carried, FairStart}
 use Rattle.bus.specs.declared.Symbol.{Symbol}
-use Rattle.bus.specs.declared.Symbol.TheVariants.{Zero, Stop, Start, One}
-use Rattle.bus.specs.Symbols.{rank, same_rank, symbols, is_stop}
+use Rattle.bus.specs.declared.Symbol.TheVariants.{Start, One}
+use Rattle.bus.specs.Symbols.{rank, symbols, is_stop}
 use Rattle.bus.specs.declared.Turn.{Turn}
-use Rattle.bus.specs.declared.Turn.TheVariants.{Free, Address, AddressNinth, Border, ClosingBorder, Write, WriteNinth, Read, ReadNinth}
-use Rattle.bus.specs.Turns.{next, masters_slot, legal, busy, bus}
+use Rattle.bus.specs.declared.Turn.TheVariants.{Free}
+use Rattle.bus.specs.Turns.{next, legal, busy, bus}
 use Rattle.orders.specs.Orders.{Segment, Order, Lawful, Answer}
 use Rattle.scripts.specs.Alone.{longest}
-use Rattle.scripts.specs.Scripts.{plan, Progress, begin, offer, hear, after, script, answer}
+use Rattle.scripts.specs.Scripts.{plan, begin, offer, hear, script, answer}
 use Rattle.masters.specs.Standings.{Request, Contender, Standing, idle, waiting, contending, answered, starting, contender_in, offered, lost, becomes}
 use Rattle.law.proofs.One.{Bench, told, hears, least_offer, carried, moved}
-use Rattle.history.proofs.General.{least_left, least_right, least_either, least_le, polite_on, legal_slot, some_stay, was_in}
-use Rattle.history.proofs.General as general
-use Rattle.bus.proofs.Slots.{busy_next, own, free_turn, is_it_stop}
+use Rattle.history.proofs.General.{least_left, least_either, least_le, polite_on, legal_slot, some_stay}
+use Rattle.bus.proofs.Slots.{busy_next, free_turn, is_it_stop}
 use Rattle.scripts.proofs.Plans.{Fits, plan_fits, fits_on, fits_keeps, plan_short, plan_some, nonempty, no_longer}
 
 pub not_some : {A : Type 0} (o : Option A) (a : A) → o ≡ none → o ≡ some a → ⊥

@@ -1,12 +1,11 @@
 -- A bench of banks seen as one turn, a list of standings and one reply rule. Assumes nothing.
-use Rattle.std.proofs.Common.{◌≡◌, ℕ, zero, suc, ◌+◌, ◌<◌, ◌≤◌, Bool, true, false, cond, not, ◌&&◌, ◌||◌, eqb, ltb, List, [], ◌∷◌, ◌++◌, map, length, get_or, Some, None, Option, sym, refl, ap, ◌∙◌, subst, arith, ne_eqb}
+use Rattle.std.proofs.Common.{◌≡◌, ℕ, zero, suc, ◌+◌, ◌≤◌, Bool, true, false, cond, not, ◌||◌, eqb, ltb, List, [], ◌∷◌, ◌++◌, map, Some, None, Option, sym, refl, ap, ◌∙◌, subst, arith, ne_eqb}
 use mathlib.Core.Path.{fun_ext}
 use mathlib.Core.List.{map-append}
-use borrow.Author.Tests.{clash}
 use Rattle.bus.specs.declared.Symbol.{Symbol}
-use Rattle.bus.specs.declared.Symbol.TheVariants.{Zero, Stop, Start, One}
+use Rattle.bus.specs.declared.Symbol.TheVariants.{One}
 use Rattle.bus.specs.declared.Turn.{Turn}
-use Rattle.bus.specs.declared.Turn.TheVariants.{Free, Address, AddressNinth, Border, ClosingBorder, Write, WriteNinth, Read, ReadNinth}
+use Rattle.bus.specs.declared.Turn.TheVariants.{Free}
 use Rattle.history.specs.Marks.{least}
 use Rattle.history.specs.Contest.{Rule, on, turn_after, Polite, stays}
 use mathlib.Core.Option as maybe
@@ -21,12 +20,12 @@ use Rattle.law.proofs.One as one
 use Rattle.history.proofs.General.{least_left}
 use Rattle.law.proofs.OneBanks.{polite_both, least_offer_append, all_waits_append, alter_left, alter_right}
 use Rattle.bus.specs.Banks.{Bank, Single, Both, each, All, least_of, beyond, alter, listed}
-use Rattle.bus.proofs.Banks.{all_each, all_made, all_both, all_alter, Lies, lies}
+use Rattle.bus.proofs.Banks.{all_each, all_made, all_alter, Lies, lies}
 use Rattle.masters.specs.Master as m
 use Rattle.masters.specs.Master.{Master, offers, somebody_waits}
 use Rattle.slaves.specs.Slave as s
 use Rattle.slaves.specs.Slave.{Slave, Event, Heard, Freed, Told, Well, Meek, befallen, settle, replies, turns_after, Follows}
-use Rattle.law.specs.Model.{Model, assembled, carried, heard, moved}
+use Rattle.law.specs.Model.{Model, assembled, carried, moved}
 use Rattle.law.specs.Law.{waiting_in}
 
 abbrev pub standings : Bank Master → List Standing

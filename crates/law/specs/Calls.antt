@@ -3,7 +3,7 @@
 --     does, moves     the bench after a call, and the slots that the call moves
 --     final, slots    the same of a list of calls
 --     run_answer      what a run returns
-use Rattle.std.specs.Prelude.{ℕ, Bool, cond, List, [], ◌∷◌, ◌++◌, map, length, drop, Ok, Err, Result, nat_lt}
+use Rattle.std.specs.Prelude.{ℕ, cond, List, [], ◌∷◌, ◌++◌, map, length, drop, Ok, Err, Result, nat_lt}
 use Rattle.refusals.specs.declared.Refusal.{Refusal}
 use Rattle.refusals.specs.declared.Refusal.TheVariants.{LongRun, FullBook}
 use Rattle.bus.specs.declared.Symbol.{Symbol}

@@ -19,7 +19,7 @@ use Rattle.bus.specs.Turns.{busy, bus}
 use Rattle.bus.specs.Banks.{Bank, Single, Both, All}
 use Rattle.orders.specs.Orders.{Answer}
 use Rattle.scripts.specs.Alone.{AloneHistory, answer_of}
-use Rattle.masters.specs.Standings.{Request, Standing, waiting, answered, is_waiting}
+use Rattle.masters.specs.Standings.{Request, waiting, answered, is_waiting}
 use Rattle.masters.specs.Master.{Master, somebody_waits}
 use Rattle.slaves.specs.Slave.{Slave, Well, replies}
 use Rattle.law.specs.Model.{Model, assembled, standing, Slot}
