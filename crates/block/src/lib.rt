@@ -22,6 +22,7 @@ pub const IICSE0: u32 = 0x1C;
 
 pub const IICF0: u32 = 0x28;
 
+// The register that an offset names.
 #[derive(Clone, Copy, Debug, PartialEq, Eq, Hash)]
 pub enum Register {
     Iic0,
