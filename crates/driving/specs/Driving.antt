@@ -89,7 +89,7 @@ failed r o i = record { standing = Contending Stopping i 0; losses = r.losses; o
 
 -- one loss more; 999 stay 999
 abbrev pub lost : Known → Known
-lost r = record { standing = Waiting; losses = min 999 (r.losses + 1); outcome = Done; bytes = [] }
+lost r = record { standing = Waiting; losses = min 999 (r.losses + 1); outcome = r.outcome; bytes = r.bytes }
 
 abbrev pub entered : Known → Known
 entered r = record { standing = Contending Address 0 0; losses = r.losses; outcome = Done; bytes = [] }

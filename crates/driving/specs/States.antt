@@ -2,6 +2,7 @@
 --     Standing    how it stands
 --     Known       with its losses, the outcome so far, and the bytes read
 --     known_of    what a state of the code means; what a state has none of is 0, Done or no byte
+--     kept        what a state keeps of what is known; what it has no place for is 0, Done or no byte
 --     Led         what a step leads to: the order stands, and the block and what is known come to these
 use Rattle.std.specs.Prelude.{◌≡◌, ℕ, List, []}
 use Rattle.orders.specs.declared.Outcome.{Outcome}
@@ -30,6 +31,15 @@ known_of state.Idle = record { standing = Idle; losses = 0; outcome = Done; byte
 known_of (state.Waiting losses) = record { standing = Waiting; losses = losses; outcome = Done; bytes = [] }
 known_of (state.Contending c) = record { standing = Contending c.phase c.segment c.byte; losses = c.losses; outcome = c.outcome; bytes = held c.bytes }
 known_of (state.Answered losses outcome bytes) = record { standing = Answered; losses = losses; outcome = outcome; bytes = held bytes }
+
+abbrev pub kept_at : Standing → Known → Known
+kept_at Idle r = record { standing = Idle; losses = 0; outcome = Done; bytes = [] }
+kept_at Waiting r = record { standing = Waiting; losses = r.losses; outcome = Done; bytes = [] }
+kept_at (Contending p i j) r = r
+kept_at Answered r = r
+
+abbrev pub kept : Known → Known
+kept r = kept_at r.standing r
 
 pub record Led (old new : Drive) (block : Block) (known : Known) : Type 0 where
   pub order_stands : new.order ≡ old.order

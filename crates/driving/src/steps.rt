@@ -2,7 +2,7 @@
 ghost use Rattle.std.specs.Prelude.{◌≡◌};
 ghost use Rattle.orders.specs.Fills.{order_of};
 ghost use Rattle.progress.specs.Positions.{here};
-ghost use Rattle.driving.specs.States.{Contending, known_of, Led};
+ghost use Rattle.driving.specs.States.{Contending, known_of, kept, Led};
 ghost use Rattle.driving.specs.Driving.{address_byte_of, sent, block_past, standing_past, ended, block_on, standing_on, going_block, going_known, with_standing, out_known, entered as entered_of, failed, lost as lost_of, heard_block, heard_known, loss_cleared, retried};
 
 use crate::access::{Flag, begin, end, moved_byte, receive, renew, send, shows};
@@ -25,7 +25,7 @@ impl Contender {
 
     // MSTS0 = 0: its P was carried, or it lost.
     fn out(self, carried: Symbol) -> State
-        ensures { known_of result ≡ out_known self.phase carried (known_of (State.Contending self)) }
+        ensures { known_of result ≡ kept (out_known self.phase carried (known_of (State.Contending self))) }
     {
         match (self.phase, carried) {
             (Phase::Stopping, Symbol::Stop) => State::Answered {
@@ -40,7 +40,7 @@ impl Contender {
 
 // It waits with one loss more; 999 stay 999.
 fn lost(losses: u16) -> State
-    ensures { known_of result ≡ lost_of (known_of (State.Waiting losses)) }
+    ensures { known_of result ≡ kept (lost_of (known_of (State.Waiting losses))) }
 {
     State::Waiting {
         losses: losses.min(998) + 1,
@@ -165,7 +165,7 @@ impl Drive {
     pub fn respond(&mut self, tried: bool, carried: Symbol)
         ensures { Led self.old self.new
             (heard_block (order_of self.old.order) tried carried (known_of self.old.state).standing self.old.block)
-            (heard_known (order_of self.old.order) tried carried (known_of self.old.state).standing self.old.block (known_of self.old.state)) }
+            (kept (heard_known (order_of self.old.order) tried carried (known_of self.old.state).standing self.old.block (known_of self.old.state))) }
     {
         let is_master = shows(&self.block, Flag::Msts0);
         match self.state {
