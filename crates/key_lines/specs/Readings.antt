@@ -1,24 +1,16 @@
 -- What the program makes of the numbers of a line. Assumes nothing.
---     Filled    what fill makes of segments and bytes
 --     Fits      the program's command is this command
 --     Reads     what the numbers ask for
 --     calls     the calls that a command makes: one, or none for an order that was refused
-use Rattle.std.specs.Prelude.{◌≡◌, ℕ, true, List, [], ◌∷◌, Some, None, Ok, Err, Result, ◌≢◌}
+use Rattle.std.specs.Prelude.{◌≡◌, ℕ, true, List, [], ◌∷◌, Some, None, Ok, Err, ◌≢◌}
 use Rattle.std.specs.declared.option.Option as std
-use Rattle.refusals.specs.declared.Refusal.{Refusal}
-use Rattle.refusals.specs.Numbers.{number}
 use Rattle.orders.specs.declared.RawSegment.{RawSegment}
-use Rattle.orders.specs.declared.order.Order.{Order}
-use Rattle.orders.specs.Fills.{order_of, refused, asked}
+use Rattle.orders.specs.Fills.{Filled}
 use Rattle.law.specs.Calls as bench
 use Rattle.law.specs.Calls.{Call}
 use Rattle.key_lines.specs.declared.commands.Command as code
 use Rattle.key_lines.specs.declared.commands.Command.TheVariants.{Place, Withdraw, Tell, Run, Collect}
 use Rattle.key_lines.specs.Commands.{Command, place, withdraw, tell, run, collect, spelt, proper}
-
-abbrev pub Filled : Result Order Refusal → List RawSegment → List ℕ → Type 0
-Filled (Ok o) ss bs = (refused ss bs ≡ 0) × (order_of o ≡ asked ss bs)
-Filled (Err e) ss bs = refused ss bs ≡ number e
 
 abbrev pub Fits : code.Command → Command → Type 0
 Fits (Place n r) c = (ss : List RawSegment) × (bs : List ℕ) × (c ≡ place n ss bs) × Filled r ss bs

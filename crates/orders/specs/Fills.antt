@@ -2,9 +2,12 @@
 --     order_of    the order that a struct holds
 --     refused     the first row of the table that refuses, or 0
 --     asked       the order asked for
-use Rattle.std.specs.Prelude.{ℕ, ◌+◌, Bool, true, cond, ◌&&◌, List, [], ◌∷◌, length, take, drop, ◌==◌, nat_le, Option, Some, None}
+--     Filled      what filled makes of segments and bytes
+use Rattle.std.specs.Prelude.{◌≡◌, ℕ, ◌+◌, Bool, true, cond, ◌&&◌, List, [], ◌∷◌, length, take, drop, ◌==◌, nat_le, Option, Some, None, Ok, Err, Result}
 use Rattle.orders.specs.Orders.{writing, reading}
 use Rattle.orders.specs.Orders as model
+use Rattle.refusals.specs.declared.Refusal.{Refusal}
+use Rattle.refusals.specs.Numbers.{number}
 use Rattle.array_vec.specs.Items.{items_of}
 use Rattle.orders.specs.declared.RawSegment.{RawSegment}
 use Rattle.bus.specs.declared.Direction.{Direction}
@@ -60,6 +63,10 @@ asked (s ∷ ss) bs =
     cond (s.direction == 0)
     (writing s.address (take s.count bs) ∷ asked ss (drop s.count bs))
     (reading s.address s.count ∷ asked ss bs)
+
+abbrev pub Filled : Result Order Refusal → List RawSegment → List ℕ → Type 0
+Filled (Ok o) ss bs = (refused ss bs ≡ 0) × (order_of o ≡ asked ss bs)
+Filled (Err e) ss bs = refused ss bs ≡ number e
 
 -- the segment that is written for one asked for, whose bytes begin at `at`
 abbrev pub written : RawSegment → ℕ → Segment

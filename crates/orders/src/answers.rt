@@ -1,8 +1,8 @@
-// What an outcome says in numbers.
-ghost use Rattle.std.specs.Prelude.{◌≡◌};
+// What an outcome says in numbers, and which bytes an answer read.
+ghost use Rattle.std.specs.Prelude.{◌≡◌, take};
 ghost use Rattle.orders.specs.Answers.{outcome_number, segment_at_fault, byte_at_fault};
 
-use crate::Outcome;
+use crate::{Answer, Outcome};
 
 impl Outcome {
     // 0 done, 1 an address, 2 a byte was not acknowledged.
@@ -34,5 +34,14 @@ impl Outcome {
             Outcome::NoByte { byte, .. } => byte,
             _ => 0,
         }
+    }
+}
+
+impl Answer {
+    // The bytes read, of the buffer that they went into: all of it, where it is shorter.
+    pub fn bytes(self, buffer: &[u8]) -> &[u8]
+        ensures { result.now ≡ take self.count buffer.now }
+    {
+        buffer.get(..usize::from(self.count)).unwrap_or(buffer)
     }
 }

@@ -4,11 +4,9 @@ ghost use Rattle.array_vec.specs.Items.{items_of};
 ghost use Rattle.orders.specs.declared.RawSegment.{RawSegment as Raw};
 ghost use Rattle.orders.specs.Tests.{every, is_byte};
 ghost use Rattle.key_lines.specs.Commands.{segment_numbers};
-ghost use Rattle.key_lines.specs.Readings.{Filled};
 
 use array_vec::ArrayVec;
-use orders::{Order, RawSegment};
-use refusals::Refusal;
+use orders::RawSegment;
 
 // So many segments and the numbers after them, unless there are too few numbers.
 pub(crate) fn read_segments(
@@ -51,13 +49,4 @@ pub(crate) fn read_bytes(numbers: &[u16]) -> Option<ArrayVec<u8, 44>>
         bytes.push(u8::try_from(*n).ok()?).ok()?;
     }
     Some(bytes)
-}
-
-// A new order of these segments and bytes, or why there is none.
-pub(crate) fn filled(segments: &[RawSegment], bytes: &[u8]) -> Result<Order, Refusal>
-    ensures { Filled result segments.now bytes.now }
-{
-    let mut order = Order::new();
-    order.fill(segments, bytes)?;
-    Ok(order)
 }

@@ -2,13 +2,14 @@
 ghost use Rattle.std.specs.Prelude.{◌≡◌, ℕ, List, [], ◌∷◌, IfOk, string_bytes};
 ghost use Rattle.refusals.specs.Numbers.{returned as returned_by};
 ghost use Rattle.orders.specs.declared.RawSegment.{RawSegment as Raw};
+ghost use Rattle.orders.specs.Fills.{Filled};
 ghost use Rattle.numerals.specs.Lines.{text as text_of};
 ghost use Rattle.bench.specs.Benches.{model};
 ghost use Rattle.law.specs.Calls.{final};
 ghost use Rattle.key_lines.specs.declared.commands.Command.TheVariants.{Place};
 ghost use Rattle.key_lines.specs.Commands.{Command as Asked, place as asks_place, run as asks_run, collect as asks_collect};
 ghost use Rattle.key_lines.specs.Replies.{reply, after as afterwards, Answers, Alters, ByACall};
-ghost use Rattle.key_lines.specs.Readings.{Filled, Fits, calls};
+ghost use Rattle.key_lines.specs.Readings.{Fits, calls};
 
 use super::Session;
 use crate::commands::{Command, Kind};

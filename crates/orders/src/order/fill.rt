@@ -3,7 +3,7 @@ ghost use Rattle.std.specs.Prelude.{◌≡◌, ◌+◌, ◌≤◌, [], ◌∷◌
 ghost use Rattle.orders.specs.Orders.{writing};
 ghost use Rattle.refusals.specs.Numbers.{returned};
 ghost use Rattle.orders.specs.Tests.{every};
-ghost use Rattle.orders.specs.Fills.{order_of, good_address, good_direction, good_count, kind_of, writes, counts, write_counts, refused, asked, written as written_of};
+ghost use Rattle.orders.specs.Fills.{order_of, good_address, good_direction, good_count, kind_of, writes, counts, write_counts, refused, asked, Filled, written as written_of};
 
 use super::Order;
 use crate::{Bytes, RawSegment, Segment};
@@ -12,6 +12,26 @@ use bus::Direction;
 use refusals::Refusal;
 
 impl RawSegment {
+    pub fn write(address: u16, count: u16) -> Self
+        ensures { result ≡ record { address = address; direction = 0; count = count } }
+    {
+        RawSegment {
+            address,
+            direction: 0,
+            count,
+        }
+    }
+
+    pub fn read(address: u16, count: u16) -> Self
+        ensures { result ≡ record { address = address; direction = 1; count = count } }
+    {
+        RawSegment {
+            address,
+            direction: 1,
+            count,
+        }
+    }
+
     // What it asks for, if its number is one of the two.
     fn kind(&self) -> Option<Direction>
         ensures { result ≡ kind_of self.now }
@@ -138,5 +158,14 @@ impl Order {
             bytes: Bytes::copied(bytes),
         };
         Ok(())
+    }
+
+    // A new order of these segments and bytes, or why there is none.
+    pub fn filled(segments: &[RawSegment], bytes: &[u8]) -> Result<Order, Refusal>
+        ensures { Filled result segments.now bytes.now }
+    {
+        let mut order = Order::new();
+        order.fill(segments, bytes)?;
+        Ok(order)
     }
 }
