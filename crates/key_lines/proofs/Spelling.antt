@@ -4,6 +4,7 @@ use mathlib.Core.Option.{none, some}
 use borrow.Author.Tests.{clash}
 use Rattle.std.specs.declared.option.Option as std
 use Rattle.std.proofs.lemmas.List.{take_rest}
+use Rattle.orders.specs.Fills.{Filled}
 use Rattle.orders.specs.declared.RawSegment.{RawSegment}
 use Rattle.orders.specs.declared.order.Order.{Order}
 use Rattle.refusals.specs.declared.Refusal.{Refusal}
@@ -16,7 +17,7 @@ use Rattle.key_lines.specs.Commands.{Command, place, withdraw, tell, run, collec
 use Rattle.key_lines.specs.declared.commands.kind.Kind.{Kind}
 use Rattle.key_lines.specs.declared.commands.kind.Kind.TheVariants as kind
 use Rattle.key_lines.specs.Kinds.{Names}
-use Rattle.key_lines.specs.Readings.{Filled, Fits, Reads}
+use Rattle.key_lines.specs.Readings.{Fits, Reads}
 
 -- so many segments off the front, and what follows them
 segments_in : ℕ → List ℕ → List RawSegment
