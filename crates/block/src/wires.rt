@@ -16,11 +16,7 @@ impl Block {
             return Symbol::One;
         }
         if is_ninth(self.turn) {
-            return if !self.status.trc0 && self.control.acke0 {
-                Symbol::Zero
-            } else {
-                Symbol::One
-            };
+            return Symbol::acknowledge(!self.status.trc0 && self.control.acke0);
         }
         match self.task {
             Task::Send(byte) if self.status.trc0 => Symbol::of_bit(byte, place(self.turn)),

@@ -1,4 +1,5 @@
 pub mod Symbols
+pub mod Addresses
 pub mod Levels
 pub mod Turns
 pub mod Banks

@@ -5,6 +5,7 @@
 --     bit        the lowest bit of a number as a symbol; value is the way back
 --     shifted    the bits of a byte with one more
 --     heading    the direction that the last slot of an address byte tells; heading_bit is the way back
+--     acknowledge    the ninth slot of a byte: 0 acknowledges, 1 does not
 use Rattle.std.specs.Prelude.{◌≡◌, ℕ, zero, suc, ◌+◌, ◌*◌, ◌%◌, Bool, true, false, cond, ◌==◌, refl}
 use Rattle.std.proofs.Common.{sym, ap, ◌∙◌, lit≤}
 use Rattle.history.specs.Marks.{Marks}
@@ -76,3 +77,8 @@ heading One = Read
 abbrev pub heading_bit : Direction → Symbol
 heading_bit Write = Zero
 heading_bit Read = One
+
+-- a ninth slot
+abbrev pub acknowledge : Bool → Symbol
+acknowledge true = Zero
+acknowledge false = One

@@ -27,13 +27,14 @@ impl Symbol {
             Symbol::Stop | Symbol::One => Level::High,
         }
     }
+}
 
-    // The symbol whose two halves these are.
-    pub fn of_levels(early: Level, late: Level) -> Symbol
-        ensures early { early_of result ≡ early }
-        ensures late { late_of result ≡ late }
-    {
-        match (early, late) {
+// The symbol whose two halves these are, the early one first.
+impl From<(Level, Level)> for Symbol {
+    ghost from_gives = { λ halves x. (early_of x ≡ halves.0) × (late_of x ≡ halves.1) };
+
+    fn from(halves: (Level, Level)) -> Symbol {
+        match halves {
             (Level::Low, Level::Low) => Symbol::Zero,
             (Level::Low, Level::High) => Symbol::Stop,
             (Level::High, Level::Low) => Symbol::Start,

@@ -1,11 +1,13 @@
 // The bus: what a slot may carry, and whose slot it is.
 #![tactic(auto)]
 
+mod addresses;
 mod levels;
 mod symbols;
 mod texts;
 mod turns;
 
+pub use addresses::is_address;
 pub use levels::halves_agree;
 
 // What a slot carries: 0, P (stop), S (start) or 1. A slot carries the least symbol offered.

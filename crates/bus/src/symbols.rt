@@ -3,9 +3,9 @@ ghost use Rattle.std.specs.Prelude.{◌≡◌, ◌/◌, ◌^◌, ◌<◌, MatchR
 ghost use Rattle.std.proofs.Common.{lit<};
 ghost use Rattle.history.specs.Marks.{least};
 ghost use Rattle.bus.specs.declared.Symbol.TheVariants.{Zero, Stop, Start, One};
-ghost use Rattle.bus.specs.Symbols.{rank as rank_of, symbols, is_bit, bit as bit_of, value as value_of, shifted, heading, heading_bit};
+ghost use Rattle.bus.specs.Symbols.{rank as rank_of, symbols, is_bit, bit as bit_of, value as value_of, shifted, acknowledge};
 
-use crate::{Direction, NoSymbol, Symbol};
+use crate::{NoSymbol, Symbol};
 use history::Mark;
 
 impl Symbol {
@@ -49,7 +49,14 @@ impl Symbol {
         }
     }
 
-    // What it counts as a bit: 1 where SDA stays high.
+    // The ninth slot of a byte: 0 acknowledges.
+    pub fn acknowledge(yes: bool) -> Symbol
+        ensures { result ≡ acknowledge yes }
+    {
+        if yes { Symbol::Zero } else { Symbol::One }
+    }
+
+    // What it counts as a bit: 1 where SDA stays high. No From: S and P count as 0 here, which a conversion would not say.
     pub fn value(self) -> u8
         ensures { result ≡ value_of self }
     {
@@ -58,36 +65,12 @@ impl Symbol {
             _ => 0,
         }
     }
-}
 
-impl Symbol {
     // The bits of a byte with this one more, after the others; the ninth before it falls out.
     pub fn shifted_into(self, bits: u8) -> u8
         ensures { result ≡ shifted bits self }
     {
         bits % 128 * 2 + self.value()
-    }
-}
-
-impl Direction {
-    // The direction that the last slot of an address byte tells.
-    pub fn of_bit(bit: Symbol) -> Direction
-        ensures { result ≡ heading bit }
-    {
-        match bit {
-            Symbol::Zero => Direction::Write,
-            _ => Direction::Read,
-        }
-    }
-
-    // The last slot of an address byte of that direction.
-    pub fn bit(self) -> Symbol
-        ensures { result ≡ heading_bit self }
-    {
-        match self {
-            Direction::Write => Symbol::Zero,
-            Direction::Read => Symbol::One,
-        }
     }
 }
 

@@ -3,13 +3,13 @@
 --     Chip        a port and its device's bytes
 --     chip_offer  what it offers: an acknowledge of its address and of each accepted byte, and the byte at its place, highest bit first
 --     chip_step   what an event makes of it
-use Rattle.std.specs.Prelude.{◌≡◌, ℕ, ◌+◌, ◌*◌, ◌/◌, ◌%◌, ◌^◌, Bool, true, false, cond, ◌&&◌, length, ◌==◌, slice_index, refl}
+use Rattle.std.specs.Prelude.{◌≡◌, ℕ, ◌/◌, ◌%◌, ◌^◌, Bool, true, false, cond, ◌&&◌, length, ◌==◌, slice_index, refl}
 use Rattle.std.proofs.Common.{length-set}
 use Rattle.bus.specs.declared.Symbol.{Symbol}
 use Rattle.bus.specs.declared.Symbol.TheVariants.{Zero, Stop, Start, One}
 use Rattle.bus.specs.declared.Turn.{Turn}
 use Rattle.bus.specs.declared.Turn.TheVariants.{Free, Address, AddressNinth, Border, Write, WriteNinth, Read, ReadNinth, ClosingBorder}
-use Rattle.bus.specs.Symbols.{is_bit, bit, value, shifted}
+use Rattle.bus.specs.Symbols.{is_bit, bit, value, shifted, acknowledge}
 use Rattle.bus.specs.Turns.{next, masters_slot}
 use Rattle.slaves.specs.Slave.{Event, Heard, Freed, Told, turn_after, Meek}
 use Rattle.slaves.specs.Machine.{Machine}
@@ -25,11 +25,6 @@ pub record Port : Type 0 where
 pub record Chip : Type 0 where
   pub port : Port
   pub store : Store
-
--- a ninth slot
-abbrev pub acknowledge : Bool → Symbol
-acknowledge true = Zero
-acknowledge false = One
 
 -- after a slot that carries a bit; with the last slot of an address byte its seven bits are compared
 abbrev pub port_bit : Turn → Symbol → Port → Port

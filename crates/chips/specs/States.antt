@@ -1,10 +1,11 @@
 -- A chip of the code as the state of its machine, and the one that is made. Assumes nothing.
 --     making    0 for an address of a chip, and else the number of the refusal
 --     IsMade    what making one answers: the new chip, or why there is none
-use Rattle.std.specs.Prelude.{◌≡◌, ℕ, true, false, cond, ◌&&◌, nat_le, Result, MatchResult}
+use Rattle.std.specs.Prelude.{◌≡◌, ℕ, true, false, cond, Result, MatchResult}
 use Rattle.refusals.specs.declared.Refusal.{Refusal}
 use Rattle.refusals.specs.Numbers.{number}
 use Rattle.bus.specs.declared.Turn.TheVariants.{Free}
+use Rattle.bus.specs.Addresses.{is_address}
 use Rattle.chips.specs.declared.Chip as code
 use Rattle.chips.specs.Store.{Store}
 use Rattle.chips.specs.Chips.{Chip}
@@ -18,7 +19,7 @@ abbrev pub made : ℕ → Store → Chip
 made a s = record { port = record { address = a; turn = Free; addressed = false; fresh = true; bits = 0 }; store = s }
 
 abbrev pub making : ℕ → ℕ
-making a = cond (nat_le 8 a && nat_le a 119) 0 2
+making a = cond (is_address a) 0 2
 
 abbrev pub IsMade : {D : Type 0} → (D → Store) → ℕ → Store → Result (code.Chip D) Refusal → Type 0
 IsMade f a s r = MatchResult r (λ c. (making a ≡ 0) × (chip_of f c ≡ made a s)) (λ e. making a ≡ number e)

@@ -5,18 +5,18 @@ ghost use Rattle.chips.specs.States.{IsMade};
 
 use crate::parts::{Cells, Plug, Registers};
 use crate::{Chip, Device, Gauge, Memory};
-use bus::Turn;
+use bus::{Turn, is_address};
 use refusals::Refusal;
 
 // A chip at an address of 8 to 119, on a free bus.
 fn make<D: Device + Drop>(address: u16, device: D) -> Result<Chip<D>, Refusal>
     ensures { IsMade D.Device.store address (D.Device.store device) result }
 {
-    let Ok(address @ 8..=119) = u8::try_from(address) else {
+    if !is_address(address) {
         return Err(Refusal::BadAddress);
-    };
+    }
     let plug = Plug {
-        address,
+        address: address as u8,
         turn: Turn::Free,
         addressed: false,
         fresh: true,

@@ -4,7 +4,7 @@ ghost use Rattle.bus.specs.Banks.{Single};
 ghost use Rattle.bus.specs.Turns.{next};
 ghost use Rattle.slaves.specs.Slave.{Heard};
 ghost use Rattle.slaves.specs.Machine.{slave_of};
-ghost use Rattle.chips.specs.Chips.{port_bit, port_heard, cleared, at_turn, acknowledge as acknowledge_by, chip_offer, store_bit, chip_step, chip};
+ghost use Rattle.chips.specs.Chips.{port_bit, port_heard, cleared, at_turn, chip_offer, store_bit, chip_step, chip};
 ghost use Rattle.chips.specs.Parts.{port_of};
 ghost use Rattle.chips.specs.States.{chip_of};
 ghost use Rattle.slaves.proofs.Machines.{well};
@@ -14,13 +14,6 @@ use crate::{Chip, Device};
 use bus::{Symbol, Turn};
 use refusals::Refusal;
 use slaves::Slaves;
-
-// A ninth slot.
-fn acknowledge(yes: bool) -> Symbol
-    ensures { result ≡ acknowledge_by yes }
-{
-    if yes { Symbol::Zero } else { Symbol::One }
-}
 
 impl Plug {
     fn take_bit(&mut self, bit: Symbol)
@@ -64,8 +57,8 @@ impl<D: Device> Chip<D> {
         ensures { result ≡ chip_offer D.Device.rule self.now.plug.turn (port_of self.now.plug) (D.Device.store self.now.device) }
     {
         match self.plug.turn {
-            Turn::AddressNinth(_) => acknowledge(self.plug.addressed),
-            Turn::WriteNinth => acknowledge(
+            Turn::AddressNinth(_) => Symbol::acknowledge(self.plug.addressed),
+            Turn::WriteNinth => Symbol::acknowledge(
                 self.plug.addressed && self.device.accepts(self.plug.fresh, self.plug.bits),
             ),
             Turn::Read(n) if self.plug.addressed => Symbol::of_bit(self.device.byte(), n),

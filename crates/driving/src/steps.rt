@@ -69,7 +69,7 @@ impl Drive {
         let wanted = self.order.segment(segment);
         send(
             &mut self.block,
-            2 * wanted.address + wanted.direction.bit().value(),
+            2 * wanted.address + Symbol::from(wanted.direction).value(),
         );
     }
 

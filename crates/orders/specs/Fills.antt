@@ -10,6 +10,7 @@ use Rattle.refusals.specs.declared.Refusal.{Refusal}
 use Rattle.refusals.specs.Numbers.{number}
 use Rattle.array_vec.specs.Items.{items_of}
 use Rattle.orders.specs.declared.RawSegment.{RawSegment}
+use Rattle.bus.specs.Addresses.{is_address}
 use Rattle.bus.specs.declared.Direction.{Direction}
 use Rattle.bus.specs.declared.Direction.TheVariants.{Write, Read}
 use Rattle.orders.specs.declared.Segment.{Segment}
@@ -27,7 +28,7 @@ kind_of s = cond (s.direction == 0) (Some Write) (cond (s.direction == 1) (Some 
 
 -- what each row of the table asks of one segment
 abbrev pub good_address : RawSegment → Bool
-good_address s = nat_le 8 s.address && nat_le s.address 119
+good_address s = is_address s.address
 
 abbrev pub good_direction : RawSegment → Bool
 good_direction s = nat_le s.direction 1

@@ -8,7 +8,7 @@ ghost use Rattle.orders.specs.Fills.{order_of, good_address, good_direction, goo
 use super::Order;
 use crate::{Bytes, RawSegment, Segment};
 use array_vec::ArrayVec;
-use bus::Direction;
+use bus::{Direction, is_address};
 use refusals::Refusal;
 
 impl RawSegment {
@@ -59,7 +59,7 @@ impl RawSegment {
 fn have_addresses(segments: &[RawSegment]) -> bool
     ensures { result ≡ every good_address segments.now }
 {
-    segments.iter().all(|s| s.address >= 8 && s.address <= 119)
+    segments.iter().all(|s| is_address(s.address))
 }
 
 fn have_directions(segments: &[RawSegment]) -> bool

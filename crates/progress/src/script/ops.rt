@@ -47,15 +47,9 @@ impl Progress {
                 }
             }
             Stage::Address { bit } => Symbol::of_bit(segment.address, bit),
-            Stage::Direction => segment.direction.bit(),
+            Stage::Direction => segment.direction.into(),
             Stage::Write { byte, bit } => { Symbol::of_bit(self.order.byte(number, byte), bit) }
-            Stage::ReadNinth { byte } => {
-                if byte + 1 < segment.count {
-                    Symbol::Zero
-                } else {
-                    Symbol::One
-                }
-            }
+            Stage::ReadNinth { byte } => Symbol::acknowledge(byte + 1 < segment.count),
             Stage::Closing => Symbol::Stop,
             _ => Symbol::One,
         }
