@@ -1,5 +1,6 @@
 -- What holds of banks. Assumes nothing.
-use Rattle.std.proofs.Common.{◌≡◌, ℕ, zero, suc, ◌+◌, ◌<◌, List, [], ◌∷◌, ◌++◌, length, get_or, Some, None, Option, sym, refl, ap, ◌∙◌, arith, length-append}
+use Rattle.std.proofs.Common.{◌≡◌, ℕ, zero, suc, ◌+◌, ◌<◌, ◌++◌, length, get_or, Some, None, Option, sym, refl, ap, ◌∙◌, arith, length-append}
+use Rattle.std.proofs.lemmas.List.{get_or_append_left, get_or-append-add}
 use Rattle.bus.specs.Banks.{Bank, Single, Both, each, All, beyond, ask, alter, listed}
 
 module _ {X : Type 0} where
@@ -59,17 +60,6 @@ module _ {X : Type 0} where
       go None h r = omega (arith, length-append (listed f a) (listed f b))
       go (Some k) h r = by k h (beyond k b) (r k)
 
-get_or_left : {Y : Type 0} (d : Y) (l r : List Y) (n : ℕ) → n < length l → get_or (l ++ r) n d ≡ get_or l n d
-get_or_left d [] r n h = absurd (omega arith)
-get_or_left d (y ∷ l) r zero h = refl
-get_or_left d (y ∷ l) r (suc n) h = get_or_left d l r n (omega arith)
-
-get_or_right : {Y : Type 0} (d : Y) (l r : List Y) (n k : ℕ) → n ≡ length l + k → get_or (l ++ r) n d ≡ get_or r k d
-get_or_right d [] r n k h = let e : n ≡ k = omega arith in ap (λ i. get_or r i d) e
-get_or_right d (y ∷ l) r zero k h = absurd (omega arith)
-get_or_right d (y ∷ l) r (suc n) k h = get_or_right d l r n k (omega arith)
-
-module _ {X : Type 0} where
   -- the one with the number n is the n-th of the list
   pub ask_listed : {Y : Type 0} (d : Y) (f : X → Y) (n : ℕ) (b : Bank X) → ask d f n b ≡ get_or (listed f b) n d
   ask_listed d f zero (Single x) = refl
@@ -78,5 +68,5 @@ module _ {X : Type 0} where
     where
       go : (o : Option ℕ) → Lies f n a o → ask d f n a ≡ get_or (listed f a) n d → ((k : ℕ) → ask d f k b ≡ get_or (listed f b) k d)
           → elim o [ None ↦ ask d f n a | Some k ↦ ask d f k b ] ≡ get_or (listed f a ++ listed f b) n d
-      go None h l r = l ∙ sym (get_or_left d (listed f a) (listed f b) n h)
-      go (Some k) h l r = r k ∙ sym (get_or_right d (listed f a) (listed f b) n k h)
+      go None h l r = l ∙ sym (get_or_append_left (listed f a) (listed f b) d n h)
+      go (Some k) h l r = r k ∙ sym (ap (λ i. get_or (listed f a ++ listed f b) i d) h ∙ get_or-append-add (listed f a) (listed f b) k d)

@@ -1,12 +1,10 @@
 -- Slots and half-slot levels compare alike. Assumes nothing.
-use Rattle.std.proofs.Common.{◌≡◌, ℕ, zero, suc, ◌+◌, ◌*◌, ◌<◌, ◌≤◌, List, [], ◌∷◌, sym, refl, ap, ◌∙◌, suc-le-suc, zero-le, le_of_suc-le-suc, arith}
+use Rattle.std.proofs.Common.{◌≡◌, ℕ, zero, suc, ◌+◌, ◌*◌, ◌<◌, ◌≤◌, List, [], ◌∷◌, sym, refl, ap, ◌∙◌, suc-le-suc, le_of_suc-le-suc, arith}
 use native.Mathlib.Decide.{dec_lt}
 use Rattle.history.specs.Marks.{Marks, mark, Less}
 use Rattle.bus.specs.declared.Symbol.{Symbol}
-use Rattle.bus.specs.declared.Symbol.TheVariants.{Zero, Stop, Start, One}
 use Rattle.bus.specs.Symbols.{rank, same_rank, symbols}
 use Rattle.bus.specs.declared.Level.{Level}
-use Rattle.bus.specs.declared.Level.TheVariants.{Low, High}
 use Rattle.bus.specs.Levels.{height, same_height, levels, early, late, halves}
 
 abbrev tail : List Symbol → List Symbol
@@ -14,8 +12,7 @@ tail [] = []
 tail (x ∷ h) = h
 
 mark_next : (g : List Symbol) (i : ℕ) → mark symbols g (suc i) ≡ mark symbols (tail g) i
-mark_next [] i = refl
-mark_next (x ∷ g) i = refl
+mark_next g i = grind arith
 
 half_early : (g : List Symbol) → mark levels (halves g) 0 ≡ early (mark symbols g 0)
 half_early [] = refl
@@ -26,19 +23,14 @@ half_late [] = refl
 half_late (x ∷ g) = refl
 
 half_next : (g : List Symbol) (i : ℕ) → mark levels (halves g) (suc (suc i)) ≡ mark levels (halves (tail g)) i
-half_next [] i = refl
-half_next (x ∷ g) i = refl
+half_next g i = grind arith
 
 -- a rank is its two levels
 two_levels : (x : Symbol) → rank x ≡ 2 * height (early x) + height (late x)
-two_levels Zero = refl
-two_levels Stop = refl
-two_levels Start = refl
-two_levels One = refl
+two_levels x = grind arith
 
 height_small : (a : Level) → height a ≤ 1
-height_small Low = zero-le
-height_small High = omega arith
+height_small a = grind arith
 
 -- less, at a given place
 record At {M : Type 0} (m : Marks M) (n : ℕ) (g h : List M) : Type 0 where

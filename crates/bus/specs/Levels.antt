@@ -2,8 +2,8 @@
 --     levels         levels as marks: low below high
 --     early, late    the two levels of a symbol
 --     halves         a history slot by slot, as the levels of its half-slots
-use Rattle.std.specs.Prelude.{◌≡◌, ℕ, zero, suc, ◌↔◌, List, [], ◌∷◌, refl}
-use Rattle.std.proofs.Common.{sym, ap, ◌∙◌, lit≤}
+use Rattle.std.specs.Prelude.{◌≡◌, ℕ, ◌↔◌, List, [], ◌∷◌}
+use Rattle.std.proofs.Common.{arith, lit≤}
 use Rattle.history.specs.Marks.{Marks, Less}
 use Rattle.bus.specs.declared.Symbol.{Symbol}
 use Rattle.bus.specs.declared.Symbol.TheVariants.{Zero, Stop, Start, One}
@@ -15,16 +15,8 @@ abbrev pub height : Level → ℕ
 height Low = 0
 height High = 1
 
-abbrev of_height : ℕ → Level
-of_height zero = Low
-of_height (suc n) = High
-
-of_height_height : (a : Level) → of_height (height a) ≡ a
-of_height_height Low = refl
-of_height_height High = refl
-
 pub same_height : (a b : Level) → height a ≡ height b → a ≡ b
-same_height a b e = sym (of_height_height a) ∙ ap of_height e ∙ of_height_height b
+same_height a b e = grind arith
 
 abbrev pub levels : Marks Level
 levels = record { rank = height; apart = same_height; top = High; greatest = elim [ Low ↦ lit≤ tt | High ↦ lit≤ tt ] }

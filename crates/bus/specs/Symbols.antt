@@ -6,8 +6,8 @@
 --     shifted    the bits of a byte with one more
 --     heading    the direction that the last slot of an address byte tells; heading_bit is the way back
 --     acknowledge    the ninth slot of a byte: 0 acknowledges, 1 does not
-use Rattle.std.specs.Prelude.{◌≡◌, ℕ, zero, suc, ◌+◌, ◌*◌, ◌%◌, Bool, true, false, cond, ◌==◌, refl}
-use Rattle.std.proofs.Common.{sym, ap, ◌∙◌, lit≤}
+use Rattle.std.specs.Prelude.{◌≡◌, ℕ, ◌+◌, ◌*◌, ◌%◌, Bool, true, false, cond, ◌==◌}
+use Rattle.std.proofs.Common.{arith, lit≤}
 use Rattle.history.specs.Marks.{Marks}
 use Rattle.bus.specs.declared.Symbol.{Symbol}
 use Rattle.bus.specs.declared.Symbol.TheVariants.{Zero, Stop, Start, One}
@@ -20,20 +20,8 @@ rank Stop = 1
 rank Start = 2
 rank One = 3
 
-abbrev of_rank : ℕ → Symbol
-of_rank zero = Zero
-of_rank (suc zero) = Stop
-of_rank (suc (suc zero)) = Start
-of_rank (suc (suc (suc n))) = One
-
-of_rank_rank : (a : Symbol) → of_rank (rank a) ≡ a
-of_rank_rank Zero = refl
-of_rank_rank Stop = refl
-of_rank_rank Start = refl
-of_rank_rank One = refl
-
 pub same_rank : (a b : Symbol) → rank a ≡ rank b → a ≡ b
-same_rank a b e = sym (of_rank_rank a) ∙ ap of_rank e ∙ of_rank_rank b
+same_rank a b e = grind arith
 
 abbrev pub symbols : Marks Symbol
 symbols = record {

@@ -1,7 +1,6 @@
 // Slots as two half-slot levels.
-ghost use Rattle.std.specs.Prelude.{◌≡◌, refl};
-ghost use Rattle.std.proofs.Common.{lit<};
-ghost use Rattle.bus.specs.declared.Level.TheVariants.{Low, High};
+ghost use Rattle.std.specs.Prelude.{◌≡◌};
+ghost use Rattle.std.proofs.Common.{arith};
 ghost use Rattle.bus.specs.Levels.{early as early_of, late as late_of, levels, HalvesAgree};
 
 use crate::{Level, Symbol};
@@ -46,7 +45,7 @@ impl From<(Level, Level)> for Symbol {
 impl Mark for Level {
     ghost marks = { levels };
 
-    ghost ranked = { elim [ Low ↦ elim [ Low ↦ refl | High ↦ lit< tt ] | High ↦ elim [ Low ↦ lit< tt | High ↦ refl ] ] };
+    ghost ranked = { λ a b. Prim.grind arith };
 
     fn greatest() -> Level {
         Level::High

@@ -1,8 +1,7 @@
 // Symbols, their order, and the bits among them.
-ghost use Rattle.std.specs.Prelude.{◌≡◌, ◌/◌, ◌^◌, ◌<◌, MatchResult, refl};
-ghost use Rattle.std.proofs.Common.{lit<};
+ghost use Rattle.std.specs.Prelude.{◌≡◌, ◌/◌, ◌^◌, ◌<◌, MatchResult};
+ghost use Rattle.std.proofs.Common.{arith};
 ghost use Rattle.history.specs.Marks.{least};
-ghost use Rattle.bus.specs.declared.Symbol.TheVariants.{Zero, Stop, Start, One};
 ghost use Rattle.bus.specs.Symbols.{rank as rank_of, symbols, is_bit, bit as bit_of, value as value_of, shifted, acknowledge};
 
 use crate::{NoSymbol, Symbol};
@@ -93,12 +92,7 @@ impl TryFrom<u8> for Symbol {
 impl Mark for Symbol {
     ghost marks = { symbols };
 
-    ghost ranked = { elim [
-      | Zero ↦ elim [ Zero ↦ refl | Stop ↦ lit< tt | Start ↦ lit< tt | One ↦ lit< tt ]
-      | Stop ↦ elim [ Zero ↦ lit< tt | Stop ↦ refl | Start ↦ lit< tt | One ↦ lit< tt ]
-      | Start ↦ elim [ Zero ↦ lit< tt | Stop ↦ lit< tt | Start ↦ refl | One ↦ lit< tt ]
-      | One ↦ elim [ Zero ↦ lit< tt | Stop ↦ lit< tt | Start ↦ lit< tt | One ↦ refl ]
-    ] };
+    ghost ranked = { λ a b. Prim.grind arith };
 
     fn greatest() -> Symbol {
         Symbol::One
