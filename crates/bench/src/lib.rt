@@ -2,7 +2,7 @@
 #![tactic(auto)]
 
 ghost use Rattle.std.specs.Prelude.{◌≡◌, [], ◌∷◌, ◌+◌, ◌-◌, ◌≤◌, length};
-ghost use Rattle.books.specs.Marks.{marked, Grows};
+ghost use Rattle.books.specs.Marks.{marked, left, Grows};
 ghost use Rattle.bus.specs.Symbols.{rank as rank_of};
 ghost use Rattle.bus.specs.Banks.{All};
 ghost use Rattle.masters.specs.Master as m;
@@ -84,10 +84,10 @@ impl<M: Masters, S: Slaves> Bench<M, S> {
 
     // Moves slots until there are `n`, or the bus is free and nobody waits; marks their ranks, and says how many.
     pub fn run(&mut self, n: usize, book: &mut Book<u8>) -> Result<usize, Refusal>
-        ensures answer { result ≡ run_answer n (length book.old.places.now - book.old.used) (model M.Masters S.Slaves self.old) }
-        ensures after { model M.Masters S.Slaves self.new ≡ does (Run n (length book.old.places.now - book.old.used)) (model M.Masters S.Slaves self.old) }
-        ensures grows { Grows book.old book.new (ranks (moves (Run n (length book.old.places.now - book.old.used)) (model M.Masters S.Slaves self.old))) }
-        ensures law { Continues (model M.Masters S.Slaves self.old) (Run n (length book.old.places.now - book.old.used)) (grown (marked book.old.places.now book.old.used) (marked book.new.places.now book.new.used)) (model M.Masters S.Slaves self.new) }
+        ensures answer { result ≡ run_answer n (left book.old) (model M.Masters S.Slaves self.old) }
+        ensures after { model M.Masters S.Slaves self.new ≡ does (Run n (left book.old)) (model M.Masters S.Slaves self.old) }
+        ensures grows { Grows book.old book.new (ranks (moves (Run n (left book.old)) (model M.Masters S.Slaves self.old))) }
+        ensures law { Continues (model M.Masters S.Slaves self.old) (Run n (left book.old)) (grown (marked book.old) (marked book.new)) (model M.Masters S.Slaves self.new) }
     {
         law::holds();
         if n > 999 {

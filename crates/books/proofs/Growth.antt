@@ -6,7 +6,7 @@ use Rattle.books.specs.declared.Book.{Book}
 use Rattle.books.specs.Marks.{marked, Grows}
 
 pub grows_none : {T : Type 0} (b : Book T) → Grows b b []
-grows_none b = record { marks = sym (append-nil (marked b.places.now b.used)); used = omega arith; rest = refl; long = refl; named = refl }
+grows_none b = record { marks = sym (append-nil (marked b)); used = omega arith; rest = refl; long = refl; named = refl }
 
 -- the places left after n more are left alone by both
 left_on : {T : Type 0} (xs ys zs : List T) (u v n : ℕ) → v ≡ u + n → drop v zs ≡ drop v ys → drop u ys ≡ drop u xs → drop v zs ≡ drop v xs
@@ -16,7 +16,7 @@ left_on xs ys zs u v n e h k =
 
 pub grows_more : {T : Type 0} (a b c : Book T) (ms ns : List T) → Grows a b ms → Grows b c ns → Grows a c (ms ++ ns)
 grows_more a b c ms ns g h = record {
-  marks = h.marks ∙ ap (λ (q : List _). q ++ ns) g.marks ∙ append_assoc (marked a.places.now a.used) ms ns;
+  marks = h.marks ∙ ap (λ (q : List _). q ++ ns) g.marks ∙ append_assoc (marked a) ms ns;
   used = omega (arith, g.used, h.used, length-append ms ns);
   rest = left_on a.places.now b.places.now c.places.now b.used c.used (length ns) h.used h.rest g.rest;
   long = h.long ∙ g.long;

@@ -1,7 +1,7 @@
 // What is done with a book.
-ghost use Rattle.std.specs.Prelude.{◌≡◌, ◌-◌, [], ◌∷◌, length, is_ok, if◌then◌else◌, nat_lt};
-ghost use Rattle.refusals.specs.Numbers.{returned};
-ghost use Rattle.books.specs.Marks.{marked, Grows};
+ghost use Rattle.std.specs.Prelude.{◌≡◌, [], ◌∷◌, length, is_ok, Ok, Err, if◌then◌else◌, nat_lt};
+ghost use Rattle.refusals.specs.declared.Refusal.TheVariants.{FullBook};
+ghost use Rattle.books.specs.Marks.{marked, left, Grows};
 
 use crate::Book;
 use refusals::Refusal;
@@ -18,22 +18,21 @@ impl<'a, T: Copy> Book<'a, T> {
 
     // How many marks it still takes.
     pub fn left(&self) -> usize
-        ensures { result ≡ length self.now.places.now - self.now.used }
+        ensures { result ≡ left self.now }
     {
         self.places.len() - self.used
     }
 
     // How many marks it has.
     pub fn total(&self) -> usize
-        ensures { result ≡ length (marked self.now.places.now self.now.used) }
+        ensures { result ≡ length (marked self.now) }
     {
-        self.places.len() - self.left()
+        self.used // one place each
     }
 
     // Adds a mark after the others; a full book refuses and stays as it is.
     pub fn mark(&mut self, mark: T) -> Result<(), Refusal>
-        ensures answer { returned result ≡ (if nat_lt self.old.used (length self.old.places.now) then 0 else 22) }
-        ensures test { is_ok result ≡ nat_lt self.old.used (length self.old.places.now) }
+        ensures answer { result ≡ (if nat_lt 0 (left self.old) then Ok tt else Err FullBook) }
         ensures grows { Grows self.old self.new (if is_ok result then mark ∷ [] else []) }
     {
         if self.used >= self.places.len() {

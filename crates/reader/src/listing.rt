@@ -1,7 +1,7 @@
 // Lists the words of a record in a book.
 ghost use Rattle.std.specs.Prelude.{◌≡◌, ◌-◌, List, map, length, MatchResult};
 ghost use Rattle.refusals.specs.Numbers.{number};
-ghost use Rattle.books.specs.Marks.{Grows};
+ghost use Rattle.books.specs.Marks.{left, Grows};
 ghost use Rattle.reader.specs.Words.{Meaning, listed as listed_of};
 ghost use Rattle.reader.specs.Records.{WordsOf};
 ghost use Rattle.reader.specs.Refusals.{Refused};
@@ -14,7 +14,7 @@ use refusals::Refusal;
 pub fn list(slots: &[u8], book: &mut Book<Listed>) -> Result<(), Refusal>
     ensures cases { MatchResult result
         (λ _. (ws : List Meaning) × WordsOf slots.now ws × Grows book.old book.new (map listed_of ws))
-        (λ e. Refused slots.now (length book.old.places.now - book.old.used) e (number e) × (book.new ≡ book.old)) }
+        (λ e. Refused slots.now (left book.old) e (number e) × (book.new ≡ book.old)) }
 {
     let words = Words::of(slots)?;
     if book.left() < words.count() {
