@@ -37,6 +37,14 @@ impl<T: Copy, const N: usize> ArrayVec<T, N> {
         &self.places[..self.used]
     }
 
+    // A copy of its places, of which the items are the first.
+    pub fn to_array(&self) -> [T; N]
+        ensures { take (length (items_of self.now)) result ≡ items_of self.now }
+    {
+        let ArrayVec { places, used: _ } = *self;
+        places
+    }
+
     // One item more; a full list hands it back and stays as it is.
     pub fn push(&mut self, item: T) -> Result<(), T>
         ensures test { is_ok result ≡ nat_lt (length (items_of self.old)) N }

@@ -34,7 +34,10 @@ impl Bytes {
     pub fn at(&self, place: u8) -> u8
         ensures { result ≡ slice_index (held self.now) place }
     {
-        self.as_slice().get(place as usize).copied().unwrap_or(0)
+        self.as_slice()
+            .get(usize::from(place))
+            .copied()
+            .unwrap_or(0)
     }
 
     // One byte more; where 32 are held, nothing is altered.

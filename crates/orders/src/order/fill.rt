@@ -147,9 +147,10 @@ impl Order {
         ensures kept { (returned result ≢ 0) → self.new ≡ self.old }
     {
         check(segments, bytes)?;
-        // A plain array: no element can be lent of one inside a struct that has a ghost field.
-        let mut copy = [Segment::NOTHING; 4];
+        // A copy of the order's own table, since no element can be lent of one inside a struct that has a ghost field.
+        let mut copy = self.segments.to_array();
         let mut at = 0;
+        // By index: a proof knows no element that iter_mut lends.
         for (i, s) in segments.iter().enumerate() {
             at = write_segment(&mut copy[i], *s, at);
         }

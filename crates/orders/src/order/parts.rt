@@ -35,7 +35,7 @@ impl Order {
         ensures means { meant (held self.now.bytes) result ≡ slice_index_or (order_of self.now) i nothing }
     {
         self.segments()
-            .get(i as usize)
+            .get(usize::from(i))
             .copied()
             .unwrap_or(Segment::NOTHING)
     }
@@ -46,12 +46,8 @@ impl Order {
     {
         let segment = self.segment(i);
         match segment.direction {
-            Direction::Write => if j < segment.count {
-                self.bytes.at(segment.at + j)
-            } else {
-                0
-            },
-            Direction::Read => 0,
+            Direction::Write if j < segment.count => self.bytes.at(segment.at + j),
+            _ => 0,
         }
     }
 }
