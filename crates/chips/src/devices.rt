@@ -4,8 +4,8 @@ ghost use Rattle.refusals.specs.declared.Refusal.TheVariants.{NoSuchPlace};
 ghost use Rattle.chips.specs.Rules.{gauge, memory};
 ghost use Rattle.chips.specs.Parts.{registers_of, cells_of};
 
-use crate::Device;
 use crate::parts::{Cells, Registers};
+use crate::{Device, Written};
 use refusals::Refusal;
 
 // Sets the byte at a place, if there is one. By get_mut no proof would know the bytes afterwards.
@@ -29,13 +29,13 @@ impl Device for Registers {
         self.registers[self.pointer as usize]
     }
 
-    fn accepts(&self, first: bool, byte: u8) -> bool {
-        first && byte < 4
+    fn accepts(&self, written: Written) -> bool {
+        matches!(written, Written::First(0..=3))
     }
 
-    fn write(&mut self, first: bool, byte: u8) {
-        if self.accepts(first, byte) {
-            self.pointer = byte;
+    fn write(&mut self, written: Written) {
+        if let Written::First(place @ 0..=3) = written {
+            self.pointer = place;
         }
     }
 
@@ -57,16 +57,17 @@ impl Device for Cells {
         self.cells[self.place as usize]
     }
 
-    fn accepts(&self, _first: bool, _byte: u8) -> bool {
+    fn accepts(&self, _: Written) -> bool {
         true
     }
 
-    fn write(&mut self, first: bool, byte: u8) {
-        if first {
-            self.place = byte;
-        } else {
-            self.cells[self.place as usize] = byte;
-            self.sent();
+    fn write(&mut self, written: Written) {
+        match written {
+            Written::First(place) => self.place = place,
+            Written::Later(byte) => {
+                self.cells[self.place as usize] = byte;
+                self.sent();
+            }
         }
     }
 

@@ -4,6 +4,7 @@
 ghost use Rattle.std.specs.Prelude.{◌≡◌, Ok, Err, is_ok, length, if◌then◌else◌, nat_lt, slice_index};
 ghost use Rattle.refusals.specs.declared.Refusal.TheVariants.{NoSuchPlace};
 ghost use Rattle.chips.specs.Store.{Store, Rule, stored};
+ghost use Rattle.chips.specs.Parts.{is_first, byte_of};
 
 mod devices;
 mod makes;
@@ -13,6 +14,13 @@ mod wiring;
 use parts::Plug;
 pub use parts::{Cells, Registers};
 use refusals::Refusal;
+
+// A byte that is written to a device: the first since the address, or a later one.
+#[derive(Clone, Copy, Debug, PartialEq, Eq, Hash)]
+pub enum Written {
+    First(u8),
+    Later(u8),
+}
 
 // What stands behind an address: bytes with a place among them.
 pub trait Device {
@@ -24,13 +32,13 @@ pub trait Device {
     fn byte(&self) -> u8
         ensures { result ≡ slice_index (store self.now).bytes (store self.now).place };
 
-    // Whether a written byte, the first since the address or a later one, is acknowledged.
-    fn accepts(&self, first: bool, byte: u8) -> bool
-        ensures { result ≡ rule.accepts first byte };
+    // Whether a written byte is acknowledged.
+    fn accepts(&self, written: Written) -> bool
+        ensures { result ≡ rule.accepts (is_first written) (byte_of written) };
 
     // What a written byte does.
-    fn write(&mut self, first: bool, byte: u8)
-        ensures { store self.new ≡ rule.wrote first byte (store self.old) };
+    fn write(&mut self, written: Written)
+        ensures { store self.new ≡ rule.wrote (is_first written) (byte_of written) (store self.old) };
 
     // What a byte that was read does.
     fn sent(&mut self)

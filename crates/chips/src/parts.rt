@@ -3,7 +3,7 @@ ghost use Rattle.std.specs.Prelude.{◌<◌};
 
 use bus::Turn;
 
-// A gauge's four byte registers and its pointer. One struct of [u8; N] for both would be no plainer: the rule, which differs, is the type's.
+// A gauge's four byte registers and its pointer. Device is implemented once for each of the two: over one struct of [u8; N], gauge and memory of the same N would be one type, with one rule.
 #[derive(Drop)]
 pub struct Registers {
     pub(crate) registers: [u8; 4],
@@ -19,7 +19,7 @@ pub struct Cells {
 }
 
 // What a chip keeps of the bus: whether it was addressed, whether no byte was written since, and the bits of the byte so far.
-// Two flags, since each is set and cleared without the other, as in the port of the definitions.
+// Two flags: an address alone sets `addressed` and leaves `fresh`, a written byte clears `fresh` of a chip that was not addressed too.
 #[derive(Drop)]
 pub struct Plug {
     pub(crate) address: u8,

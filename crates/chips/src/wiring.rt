@@ -5,17 +5,29 @@ ghost use Rattle.bus.specs.Turns.{next};
 ghost use Rattle.slaves.specs.Slave.{Heard};
 ghost use Rattle.slaves.specs.Machine.{slave_of};
 ghost use Rattle.chips.specs.Chips.{port_bit, port_heard, cleared, at_turn, chip_offer, store_bit, chip_step, chip};
-ghost use Rattle.chips.specs.Parts.{port_of};
+ghost use Rattle.chips.specs.Parts.{is_first, byte_of, port_of};
 ghost use Rattle.chips.specs.States.{chip_of};
 ghost use Rattle.slaves.proofs.Machines.{well};
 
 use crate::parts::Plug;
-use crate::{Chip, Device};
+use crate::{Chip, Device, Written};
 use bus::{Symbol, Turn};
 use refusals::Refusal;
 use slaves::Slaves;
 
 impl Plug {
+    // The byte whose ninth slot is next.
+    fn written(&self) -> Written
+        ensures first { is_first result ≡ self.now.fresh }
+        ensures byte { byte_of result ≡ self.now.bits }
+    {
+        if self.fresh {
+            Written::First(self.bits)
+        } else {
+            Written::Later(self.bits)
+        }
+    }
+
     fn take_bit(&mut self, bit: Symbol)
         ensures { port_of self.new ≡ port_bit self.old.turn bit (port_of self.old) }
     {
@@ -59,7 +71,7 @@ impl<D: Device> Chip<D> {
         match self.plug.turn {
             Turn::AddressNinth(_) => Symbol::acknowledge(self.plug.addressed),
             Turn::WriteNinth => Symbol::acknowledge(
-                self.plug.addressed && self.device.accepts(self.plug.fresh, self.plug.bits),
+                self.plug.addressed && self.device.accepts(self.plug.written()),
             ),
             Turn::Read(n) if self.plug.addressed => Symbol::of_bit(self.device.byte(), n),
             _ => Symbol::One,
@@ -72,9 +84,7 @@ impl<D: Device> Chip<D> {
         ensures same { self.new.plug ≡ self.old.plug }
     {
         match self.plug.turn {
-            Turn::WriteNinth if self.plug.addressed => self
-                .device
-                .write(self.plug.fresh, self.plug.bits),
+            Turn::WriteNinth if self.plug.addressed => self.device.write(self.plug.written()),
             Turn::ReadNinth if self.plug.addressed => self.device.sent(),
             _ => {}
         }
