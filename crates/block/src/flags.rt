@@ -9,7 +9,7 @@ use crate::{Block, Status};
 use bus::Symbol;
 
 // A flag afterwards: a set condition wins over a clear one.
-pub(crate) fn flag(set: bool, clear: bool, before: bool) -> bool
+fn flag(set: bool, clear: bool, before: bool) -> bool
     ensures { result ≡ flag_of set clear before }
 {
     set || (before && !clear)
@@ -47,9 +47,7 @@ impl Block {
     fn ald0_after(&self, x: Symbol) -> bool
         ensures { result ≡ (flags_after self.now x).ald0 }
     {
-        let set = self.loses(x);
-        let clear = false;
-        flag(set, clear, self.status.ald0)
+        self.loses(x) || self.status.ald0
     }
 
     fn exc0_after(&self, x: Symbol) -> bool
@@ -58,7 +56,7 @@ impl Block {
         let set = x.is_bit()
             && self.turn == EIGHTH_OF_ADDRESS
             && is_extension(x.shifted_into(self.shift));
-        let clear = x == Symbol::Start || x == Symbol::Stop;
+        let clear = !x.is_bit();
         flag(set, clear, self.status.exc0)
     }
 
@@ -68,7 +66,7 @@ impl Block {
         let set = x.is_bit()
             && self.turn == EIGHTH_OF_ADDRESS
             && x.shifted_into(self.shift) / 2 == self.sva0 / 2;
-        let clear = x == Symbol::Start || x == Symbol::Stop;
+        let clear = !x.is_bit();
         flag(set, clear, self.status.coi0)
     }
 

@@ -2,9 +2,8 @@
 ghost use Rattle.std.specs.Prelude.{◌≡◌, ◌<◌, ◌≤◌, if◌then◌else◌, MatchResult};
 ghost use Rattle.refusals.specs.Numbers.{returned};
 ghost use Rattle.block.specs.Flags.{status_written};
-ghost use Rattle.block.specs.Access.{reset_block, Decodes, word_of, packed as packed_of, control_value, status_value, byte_moves, read_number, reads, refuses_word, two_at_once, task_written, word_written, write_number, written as written_of};
+ghost use Rattle.block.specs.Access.{reset_block, Decodes, word_of, has as has_by, packed as packed_of, control_value, status_value, byte_moves, read_number, reads, refuses_word, two_at_once, task_written, word_written, write_number, written as written_of};
 
-use crate::flags::flag;
 use crate::slots::is_in_byte;
 use crate::{Block, Control, IIC0, IICC0, IICCL0, IICF0, IICSE0, Register, SVA0, Status, Task};
 use bus::Turn;
@@ -37,7 +36,7 @@ fn byte_of(value: u32) -> Result<u8, Refusal>
 
 // A word written into IICC0, bit by bit.
 #[derive(Clone, Copy, Debug, PartialEq, Eq, Hash)]
-pub struct Word {
+pub(crate) struct Word {
     pub iice0: bool,
     pub lrel0: bool,
     pub wrel0: bool,
@@ -48,19 +47,27 @@ pub struct Word {
     pub spt0: bool,
 }
 
+// The bit at a place, 7 the highest.
+fn has(value: u8, place: u8) -> bool
+    requires { place < 8 }
+    ensures { result ≡ has_by value place }
+{
+    value >> place & 1 == 1
+}
+
 impl From<u8> for Word {
     ghost from_gives = { λ value word. word ≡ word_of value };
 
     fn from(value: u8) -> Word {
         Word {
-            iice0: value / 128 % 2 == 1,
-            lrel0: value / 64 % 2 == 1,
-            wrel0: value / 32 % 2 == 1,
-            spie0: value / 16 % 2 == 1,
-            wtim0: value / 8 % 2 == 1,
-            acke0: value / 4 % 2 == 1,
-            stt0: value / 2 % 2 == 1,
-            spt0: value % 2 == 1,
+            iice0: has(value, 7),
+            lrel0: has(value, 6),
+            wrel0: has(value, 5),
+            spie0: has(value, 4),
+            wtim0: has(value, 3),
+            acke0: has(value, 2),
+            stt0: has(value, 1),
+            spt0: has(value, 0),
         }
     }
 }
@@ -70,7 +77,7 @@ impl Word {
     fn is_two_at_once(self) -> bool
         ensures { result ≡ two_at_once self }
     {
-        self.lrel0 as u8 + self.wrel0 as u8 + self.stt0 as u8 + self.spt0 as u8 > 1
+        u8::from(self.lrel0) + u8::from(self.wrel0) + u8::from(self.stt0) + u8::from(self.spt0) > 1
     }
 }
 
@@ -91,22 +98,23 @@ fn packed(a: bool, b: bool, c: bool, d: bool, e: bool, f: bool, g: bool, h: bool
 }
 
 impl Status {
-    // What a word written into IICC0 leaves of the flags.
+    // What a word written into IICC0 leaves of the flags: with IICE0 = 0 none, with LREL0 two, with WREL0 all but TRC0.
     fn written(self, word: Word) -> Status
         ensures { result ≡ status_written self word }
     {
-        let off = !word.iice0;
-        let leaves = off || word.lrel0;
-        let receives = leaves || word.wrel0;
+        if !word.iice0 {
+            return Status::default();
+        }
+        if word.lrel0 {
+            return Status {
+                ald0: self.ald0,
+                spd0: self.spd0,
+                ..Status::default()
+            };
+        }
         Status {
-            msts0: flag(false, leaves, self.msts0),
-            ald0: flag(false, off, self.ald0),
-            exc0: flag(false, leaves, self.exc0),
-            coi0: flag(false, leaves, self.coi0),
-            trc0: flag(false, receives, self.trc0),
-            ackd0: flag(false, leaves, self.ackd0),
-            std0: flag(false, leaves, self.std0),
-            spd0: flag(false, off, self.spd0),
+            trc0: self.trc0 && !word.wrel0,
+            ..self
         }
     }
 }
@@ -186,12 +194,12 @@ impl Block {
     {
         match Register::try_from(offset)? {
             Register::Iic0 if self.byte_moves() => Err(Refusal::NotNow),
-            Register::Iic0 => Ok(self.iic0 as u16),
+            Register::Iic0 => Ok(u16::from(self.iic0)),
             Register::Iicc0 => Ok(self.control_value()),
-            Register::Sva0 => Ok(self.sva0 as u16),
-            Register::Iiccl0 => Ok(self.iiccl0 as u16),
+            Register::Sva0 => Ok(u16::from(self.sva0)),
+            Register::Iiccl0 => Ok(u16::from(self.iiccl0)),
             Register::Iicse0 => Ok(self.status_value()),
-            Register::Iicf0 => Ok(self.iicf0 as u16),
+            Register::Iicf0 => Ok(u16::from(self.iicf0)),
         }
     }
 
