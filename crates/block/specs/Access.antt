@@ -72,12 +72,9 @@ has v n = v / 2 ^ n % 2 == 1
 
 abbrev pub word_of : ℕ → Word
 word_of v = record {
-  iice0 = has v 7;
+  control = record { iice0 = has v 7; spie0 = has v 4; wtim0 = has v 3; acke0 = has v 2 };
   lrel0 = has v 6;
   wrel0 = has v 5;
-  spie0 = has v 4;
-  wtim0 = has v 3;
-  acke0 = has v 2;
   stt0 = has v 1;
   spt0 = has v 0;
 }
@@ -126,7 +123,7 @@ refuses_byte b = not (b.control.iice0 && waits b.task)
 -- WREL0, STT0 and SPT0 are set in a wait after a ninth slot, STT0 on a free bus too, and none of them with IICE0 = 0
 abbrev pub refuses_word : Block → Word → Bool
 refuses_word b w =
-    ((w.wrel0 || (w.stt0 || w.spt0)) && not w.iice0)
+    ((w.wrel0 || (w.stt0 || w.spt0)) && not w.control.iice0)
     || (((w.wrel0 || w.spt0) && not (waits_ninth b.task))
     || (w.stt0 && (busy b.turn && not (waits_ninth b.task))))
 
@@ -137,7 +134,7 @@ two_at_once w =
 abbrev pub write_number : Block → ℕ → ℕ → ℕ
 write_number b o v =
     cond (not (is_writable o)) 15
-    (cond (nat_lt 255 v || (o == IICC0 && ((word_of v).iice0 && not (word_of v).wtim0))) 16
+    (cond (nat_lt 255 v || (o == IICC0 && ((word_of v).control.iice0 && not (word_of v).control.wtim0))) 16
     (cond ((o == IIC0 && refuses_byte b) || (o == IICC0 && refuses_word b (word_of v))) 17
     (cond (o == IICC0 && two_at_once (word_of v)) 18 0)))
 
@@ -154,7 +151,7 @@ word_written b w = record {
   turn = b.turn;
   shift = b.shift;
   task = task_written b.task w;
-  control = record { iice0 = w.iice0; spie0 = w.spie0; wtim0 = w.wtim0; acke0 = w.acke0 };
+  control = w.control;
   status = status_written b.status w;
   iic0 = b.iic0;
   sva0 = b.sva0;

@@ -75,16 +75,16 @@ status_after b x = cond b.control.iice0 (flags_after b x) no_flags
 
 -- the word switches the block off, or has it leave the contest
 abbrev pub leaves : Word → Bool
-leaves w = not w.iice0 || w.lrel0
+leaves w = not w.control.iice0 || w.lrel0
 
 abbrev pub status_written : Status → Word → Status
 status_written s w = record {
   msts0 = flag false (leaves w) s.msts0;
-  ald0 = flag false (not w.iice0) s.ald0;
+  ald0 = flag false (not w.control.iice0) s.ald0;
   exc0 = flag false (leaves w) s.exc0;
   coi0 = flag false (leaves w) s.coi0;
   trc0 = flag false (leaves w || w.wrel0) s.trc0;
   ackd0 = flag false (leaves w) s.ackd0;
   std0 = flag false (leaves w) s.std0;
-  spd0 = flag false (not w.iice0) s.spd0;
+  spd0 = flag false (not w.control.iice0) s.spd0;
 }

@@ -34,15 +34,13 @@ fn byte_of(value: u32) -> Result<u8, Refusal>
     u8::try_from(value).map_err(|_| Refusal::BadValue)
 }
 
-// A word written into IICC0, bit by bit.
+// A word written into IICC0: the bits that are stored, and the four that act.
+// `pub`, since the proofs of block_laws speak of it.
 #[derive(Clone, Copy, Debug, PartialEq, Eq, Hash)]
-pub(crate) struct Word {
-    pub iice0: bool,
+pub struct Word {
+    pub control: Control,
     pub lrel0: bool,
     pub wrel0: bool,
-    pub spie0: bool,
-    pub wtim0: bool,
-    pub acke0: bool,
     pub stt0: bool,
     pub spt0: bool,
 }
@@ -60,12 +58,14 @@ impl From<u8> for Word {
 
     fn from(value: u8) -> Word {
         Word {
-            iice0: has(value, 7),
+            control: Control {
+                iice0: has(value, 7),
+                spie0: has(value, 4),
+                wtim0: has(value, 3),
+                acke0: has(value, 2),
+            },
             lrel0: has(value, 6),
             wrel0: has(value, 5),
-            spie0: has(value, 4),
-            wtim0: has(value, 3),
-            acke0: has(value, 2),
             stt0: has(value, 1),
             spt0: has(value, 0),
         }
@@ -102,7 +102,7 @@ impl Status {
     fn written(self, word: Word) -> Status
         ensures { result ≡ status_written self word }
     {
-        if !word.iice0 {
+        if !word.control.iice0 {
             return Status::default();
         }
         if word.lrel0 {
@@ -124,7 +124,7 @@ impl Task {
     fn written(self, word: Word) -> Task
         ensures { result ≡ task_written self word }
     {
-        if !word.iice0 || word.lrel0 {
+        if !word.control.iice0 || word.lrel0 {
             Task::Rest
         } else if word.wrel0 {
             Task::Receive
@@ -208,7 +208,7 @@ impl Block {
         ensures { result ≡ refuses_word self.now word }
     {
         let ninth = self.task == Task::NinthWait;
-        (word.wrel0 || word.stt0 || word.spt0) && !word.iice0
+        (word.wrel0 || word.stt0 || word.spt0) && !word.control.iice0
             || (word.wrel0 || word.spt0) && !ninth
             || word.stt0 && self.turn.is_busy() && !ninth
     }
@@ -216,12 +216,7 @@ impl Block {
     fn set_control(&mut self, word: Word)
         ensures { self.new ≡ word_written self.old word }
     {
-        self.control = Control {
-            iice0: word.iice0,
-            spie0: word.spie0,
-            wtim0: word.wtim0,
-            acke0: word.acke0,
-        };
+        self.control = word.control;
         self.status = self.status.written(word);
         self.task = self.task.written(word);
     }
@@ -241,7 +236,7 @@ impl Block {
             }
             Register::Iicc0 => {
                 let word = Word::from(byte_of(value)?);
-                if word.iice0 && !word.wtim0 {
+                if word.control.iice0 && !word.control.wtim0 {
                     return Err(Refusal::BadValue);
                 }
                 if self.refuses(word) {

@@ -12,7 +12,7 @@ use Rattle.block_laws.specs.Laws.{Slot, LossStays, AfterStop, stopped, Started, 
 
 -- what holds of the block before, and after each write that is not refused, holds after every write
 pub by_write : (P : Block → Type 0) (b : Block) (o v : ℕ) → P b → (refuses_byte b ≡ false → P (byte_written b v)) → (refuses_word b (word_of v) ≡ false → two_at_once (word_of v) ≡ false → P (word_written b (word_of v))) → P (stored b o v) → P (written b o v)
-by_write P b o v h byte word other = go (not (is_writable o)) (ltb 255 v || (eqb o 8 && ((word_of v).iice0 && not (word_of v).wtim0))) (eqb o 0) (eqb o 8) (refuses_byte b) (refuses_word b (word_of v)) (two_at_once (word_of v)) byte word
+by_write P b o v h byte word other = go (not (is_writable o)) (ltb 255 v || (eqb o 8 && ((word_of v).control.iice0 && not (word_of v).control.wtim0))) (eqb o 0) (eqb o 8) (refuses_byte b) (refuses_word b (word_of v)) (two_at_once (word_of v)) byte word
   where
     go : (n s i c rb rw tw : Bool) → (rb ≡ false → P (byte_written b v)) → (rw ≡ false → tw ≡ false → P (word_written b (word_of v))) → P (cond (eqb (cond n 15 (cond s 16 (cond ((i && rb) || (c && rw)) 17 (cond (c && tw) 18 0)))) 0) (cond i (byte_written b v) (cond c (word_written b (word_of v)) (stored b o v))) b)
     go true s i c rb rw tw f g = h
@@ -38,7 +38,7 @@ by_slot P b x h g = go (stands_on b x)
 abbrev Kept : Block → Block → Type 0
 Kept b d = d.control.iice0 ≡ true → b.status.ald0 ≡ true → d.status.ald0 ≡ true
 
-loss_word : (w : Word) (a : Bool) → w.iice0 ≡ true → a ≡ true → flag false (not w.iice0) a ≡ true
+loss_word : (w : Word) (a : Bool) → w.control.iice0 ≡ true → a ≡ true → flag false (not w.control.iice0) a ≡ true
 loss_word w a e h = grind arith
 
 loss_slot : (b : Block) (x : Symbol) (i : Bool) → i ≡ true → b.status.ald0 ≡ true → (cond i (flags_after b x) no_flags).ald0 ≡ true

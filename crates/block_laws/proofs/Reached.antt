@@ -100,19 +100,19 @@ sound_word b w r t h = record {
   clears = λ e. clears w b.status.ackd0 (h.clears e);
 }
   where
-    off : (w : Word) (s : Status) → w.iice0 ≡ false → status_written s w ≡ no_flags
+    off : (w : Word) (s : Status) → w.control.iice0 ≡ false → status_written s w ≡ no_flags
     off w s e = grind arith
 
-    idle : (w : Word) (t : Task) → w.iice0 ≡ false → task_written t w ≡ task.Rest
+    idle : (w : Word) (t : Task) → w.control.iice0 ≡ false → task_written t w ≡ task.Rest
     idle w t e = grind arith
 
     sends : (w : Word) (s : Status) → (s.trc0 ≡ true → s.msts0 ≡ true) → (status_written s w).trc0 ≡ true → (status_written s w).msts0 ≡ true
     sends w s h e = grind arith
 
-    owns : (w : Word) (t : Task) (m y : Bool) → ((w.wrel0 || (w.stt0 || w.spt0)) && not w.iice0) || (((w.wrel0 || w.spt0) && not (waits_ninth t)) || (w.stt0 && (y && not (waits_ninth t)))) ≡ false → two_at_once w ≡ false → (owned t ≡ true → m ≡ true) → owned (task_written t w) ≡ true → flag false (leaves w) m ≡ true
+    owns : (w : Word) (t : Task) (m y : Bool) → ((w.wrel0 || (w.stt0 || w.spt0)) && not w.control.iice0) || (((w.wrel0 || w.spt0) && not (waits_ninth t)) || (w.stt0 && (y && not (waits_ninth t)))) ≡ false → two_at_once w ≡ false → (owned t ≡ true → m ≡ true) → owned (task_written t w) ≡ true → flag false (leaves w) m ≡ true
     owns w t m y r d h e = grind arith
 
-    opens : (w : Word) (t : Task) (m y : Bool) → ((w.wrel0 || (w.stt0 || w.spt0)) && not w.iice0) || (((w.wrel0 || w.spt0) && not (waits_ninth t)) || (w.stt0 && (y && not (waits_ninth t)))) ≡ false → two_at_once w ≡ false → (owned t ≡ true → m ≡ true) → (starts t ≡ true → m ≡ false → y ≡ false) → starts (task_written t w) ≡ true → flag false (leaves w) m ≡ false → y ≡ false
+    opens : (w : Word) (t : Task) (m y : Bool) → ((w.wrel0 || (w.stt0 || w.spt0)) && not w.control.iice0) || (((w.wrel0 || w.spt0) && not (waits_ninth t)) || (w.stt0 && (y && not (waits_ninth t)))) ≡ false → two_at_once w ≡ false → (owned t ≡ true → m ≡ true) → (starts t ≡ true → m ≡ false → y ≡ false) → starts (task_written t w) ≡ true → flag false (leaves w) m ≡ false → y ≡ false
     opens w t m y r d h o e f = grind arith
 
     clears : (w : Word) (a : Bool) → a ≡ false → flag false (leaves w) a ≡ false
