@@ -2,11 +2,9 @@
 #![tactic(auto)]
 
 mod kept;
-mod numbers;
 mod reading;
 mod writing;
 
 pub use kept::{Kept, long_lines_are_wrong};
-pub use numbers::Numbers;
-pub use reading::one_list;
+pub use reading::{one_list, read_numbers};
 pub use writing::{reads_back, text};

@@ -29,7 +29,7 @@ fn number(word: &[u8]) -> Option<u16>
 }
 
 // The numbers of a line, if it is a line of at most 47 numbers.
-pub(crate) fn read_numbers(line: &[u8]) -> Option<ArrayVec<u16, 47>>
+pub fn read_numbers(line: &[u8]) -> Option<ArrayVec<u16, 47>>
     ensures { MatchOption result (Wrong line.now) (λ ns. Is line.now (items_of ns)) }
 {
     let mut numbers = ArrayVec::new(0);

@@ -6,7 +6,7 @@ ghost use Rattle.key_lines.specs.Readings.{Fits, Reads};
 
 use super::segments::{read_bytes, read_segments};
 use super::{Command, Kind};
-use numerals::Numbers;
+use numerals::read_numbers;
 use orders::Order;
 
 fn place(number: u16, count: u16, rest: &[u16]) -> Option<Command>
@@ -24,11 +24,8 @@ impl Command {
         requires { length numbers.now ≤ 47 }
         ensures { Reads numbers.now result }
     {
-        let [kind, number, rest @ ..] = numbers else {
-            return None;
-        };
-        let number = *number;
-        match (Kind::try_from(*kind).ok()?, rest) {
+        let (&[kind, number], rest) = numbers.split_first_chunk::<2>()?;
+        match (Kind::try_from(kind).ok()?, rest) {
             (Kind::Place, [count, rest @ ..]) => place(number, *count, rest),
             (Kind::Withdraw, []) => Some(Command::Withdraw { number }),
             (Kind::Tell, [place, byte]) => Some(Command::Tell {
@@ -46,7 +43,7 @@ impl Command {
     pub(crate) fn of_line(line: &[u8]) -> Option<Command>
         ensures { MatchOption result (Means line.now none) (λ k. (c : Asked) × Asks line.now c × Fits k c) }
     {
-        let numbers = Numbers::read(line)?;
+        let numbers = read_numbers(line)?;
         Command::of_numbers(numbers.as_slice())
     }
 }
