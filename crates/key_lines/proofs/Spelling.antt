@@ -1,9 +1,8 @@
 -- Commands by their numbers. Assumes nothing.
-use Rattle.std.proofs.Common.{◌≡◌, ℕ, zero, suc, ◌+◌, ◌-◌, ◌*◌, ◌<◌, ◌≤◌, Bool, true, false, cond, ltb, List, [], ◌∷◌, ◌++◌, length, is_ok, is_some, get_or, take, drop, Some, None, Ok, Err, Result, sym, refl, ap, ◌∙◌, subst, arith, lt-ltb, MatchOption}
+use Rattle.std.proofs.Common.{◌≡◌, ℕ, zero, suc, ◌+◌, ◌*◌, ◌<◌, Bool, true, false, cond, ltb, List, [], ◌∷◌, ◌++◌, length, is_ok, is_some, get_or, drop, Some, None, Ok, Err, Result, sym, refl, ap, ◌∙◌, subst, arith, lt-ltb, MatchOption}
 use mathlib.Core.Option.{none, some}
 use borrow.Author.Tests.{clash}
 use Rattle.std.specs.declared.option.Option as std
-use Rattle.std.proofs.lemmas.List.{take_rest}
 use Rattle.orders.specs.Fills.{Filled}
 use Rattle.orders.specs.declared.RawSegment.{RawSegment}
 use Rattle.orders.specs.declared.order.Order.{Order}
@@ -67,13 +66,6 @@ one_meaning line (some c) none m k = absurd (k c m)
 one_meaning line (some c) (some d) m k =
     ap some (sym (spelt_back c) ∙ ap back (one_list line (spelt c) (spelt d) m.0.0 k.0.0) ∙ spelt_back d)
 
--- numbers taken apart as the program does it
-pub as_three : (ns : List ℕ) → 3 ≤ length ns → ns ≡ get_or ns 0 0 ∷ (get_or ns 1 0 ∷ (get_or ns 2 0 ∷ drop 3 ns))
-as_three [] l = absurd (omega arith)
-as_three (a ∷ []) l = absurd (omega arith)
-as_three (a ∷ (b ∷ [])) l = absurd (omega arith)
-as_three (a ∷ (b ∷ (c ∷ ns))) l = refl
-
 -- orders
 pub segments_long : (ss : List RawSegment) (bs ns : List ℕ) → ns ≡ segment_numbers ss ++ bs → 3 * length ss + length bs ≡ length ns
 segments_long ss bs ns e = all ss ∙ sym (ap length e)
@@ -100,16 +92,16 @@ abbrev pub first_segment : List ℕ → RawSegment
 first_segment ns = record { address = get_or ns 0 0; direction = get_or ns 1 0; count = get_or ns 2 0 }
 
 -- one segment more off the front
-pub segment_more : (ns ms : List ℕ) (ss ss' : List RawSegment) → 3 ≤ length ms → ss' ≡ ss ++ (first_segment ms ∷ []) → ns ≡ segment_numbers ss ++ ms
-    → ns ≡ segment_numbers ss' ++ take (length ms - 3) (drop 3 ms)
-segment_more ns ms ss ss' l es e =
-    e ∙ ap (λ (q : List ℕ). segment_numbers ss ++ q) (as_three ms l ∙ ap (λ (q : List ℕ). get_or ms 0 0 ∷ (get_or ms 1 0 ∷ (get_or ms 2 0 ∷ q))) (sym (take_rest ms 3)))
-    ∙ sym (spread ss) ∙ ap (λ (q : List RawSegment). segment_numbers q ++ rest) (sym es)
+pub segment_more : (ns ms front rest : List ℕ) (ss ss' : List RawSegment) → length front ≡ 3 → ms ≡ front ++ rest → ss' ≡ ss ++ (first_segment front ∷ []) → ns ≡ segment_numbers ss ++ ms
+    → ns ≡ segment_numbers ss' ++ rest
+segment_more ns ms [] rest ss ss' l em es e = absurd (omega (arith, l))
+segment_more ns ms (a ∷ []) rest ss ss' l em es e = absurd (omega (arith, l))
+segment_more ns ms (a ∷ (b ∷ [])) rest ss ss' l em es e = absurd (omega (arith, l))
+segment_more ns ms (a ∷ (b ∷ (c ∷ (d ∷ ds)))) rest ss ss' l em es e = absurd (omega (arith, l))
+segment_more ns ms (a ∷ (b ∷ (c ∷ []))) rest ss ss' l em es e =
+    e ∙ ap (λ (q : List ℕ). segment_numbers ss ++ q) em ∙ sym (spread ss) ∙ ap (λ (q : List RawSegment). segment_numbers q ++ rest) (sym es)
   where
-    rest : List ℕ
-    rest = take (length ms - 3) (drop 3 ms)
-
-    spread : (ss : List RawSegment) → segment_numbers (ss ++ (first_segment ms ∷ [])) ++ rest ≡ segment_numbers ss ++ (get_or ms 0 0 ∷ (get_or ms 1 0 ∷ (get_or ms 2 0 ∷ rest)))
+    spread : (ss : List RawSegment) → segment_numbers (ss ++ (record { address = a; direction = b; count = c } ∷ [])) ++ rest ≡ segment_numbers ss ++ (a ∷ (b ∷ (c ∷ rest)))
     spread [] = refl
     spread (s ∷ ss) = ap (λ (q : List ℕ). s.address ∷ (s.direction ∷ (s.count ∷ q))) (spread ss)
 

@@ -10,13 +10,13 @@ use orders::RawSegment;
 
 // So many segments and the numbers after them, unless there are too few numbers.
 pub(crate) fn read_segments(
-    count: u16,
+    many: u16,
     numbers: &[u16],
 ) -> Option<(ArrayVec<RawSegment, 14>, &[u16])>
     requires { length numbers.now ≤ 44 }
     ensures { MatchOption result
-        ((ss : List Raw) (bs : List ℕ) → length ss ≡ count → numbers.now ≡ segment_numbers ss ++ bs → ⊥)
-        (λ p. (length (items_of p.0) ≡ count) × (numbers.now ≡ segment_numbers (items_of p.0) ++ p.1.now)) }
+        ((ss : List Raw) (bs : List ℕ) → length ss ≡ many → numbers.now ≡ segment_numbers ss ++ bs → ⊥)
+        (λ p. (length (items_of p.0) ≡ many) × (numbers.now ≡ segment_numbers (items_of p.0) ++ p.1.now)) }
 {
     let mut segments = ArrayVec::new(RawSegment {
         address: 0,
@@ -24,14 +24,12 @@ pub(crate) fn read_segments(
         count: 0,
     });
     let mut left = numbers;
-    for _ in 0..count {
-        let [address, direction, count, rest @ ..] = left else {
-            return None;
-        };
+    for _ in 0..many {
+        let (&[address, direction, count], rest) = left.split_first_chunk::<3>()?;
         let segment = RawSegment {
-            address: *address,
-            direction: *direction,
-            count: *count,
+            address,
+            direction,
+            count,
         };
         segments.push(segment).ok()?;
         left = rest;
@@ -40,6 +38,7 @@ pub(crate) fn read_segments(
 }
 
 // The bytes that the numbers are, if all of them are bytes.
+// A loop of its own beside the one above, which takes three numbers at a time and stops at a count.
 pub(crate) fn read_bytes(numbers: &[u16]) -> Option<ArrayVec<u8, 44>>
     requires { length numbers.now ≤ 44 }
     ensures { MatchOption result (every is_byte numbers.now ≡ false) (λ bs. (every is_byte numbers.now ≡ true) × (items_of bs ≡ numbers.now)) }

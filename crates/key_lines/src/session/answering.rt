@@ -23,6 +23,8 @@ use refusals::{Refusal, returned};
 use slaves::Slaves;
 use std::alloc::{AllocError, Global};
 
+// The heap comes with each line and is no field: `new` and `end` take and hand back a bench alone.
+// The clauses spell out `model M.Masters S.Slaves`, since any short name for it needs the same two members.
 impl<M: Masters, S: Slaves> Session<M, S> {
     pub fn new(bench: Bench<M, S>) -> Self
         ensures { result.bench ≡ bench }
