@@ -50,11 +50,6 @@ at_nine b slots p some none_first two one ws (nine {xs = ys} {ws = later} s e l 
       (later, ap (λ (q : List ℕ). byte p q ∷ later) (sym t), subst (λ (q : List ℕ). Reads true q (p + 9) later) (sym d) r),
     )
 
--- the same by the first slot
-first_is : (slots : List ℕ) (n : ℕ) → 0 < length slots → get_or slots 0 0 ≡ n → slots ≡ n ∷ drop 1 slots
-first_is [] n some e = absurd (omega arith)
-first_is (x ∷ xs) n some e = ap (λ (y : ℕ). y ∷ xs) e
-
 -- nothing is left
 pub take_end : (slots : List ℕ) (p : ℕ) → length slots < 1 → (b : Bool) → Ended b slots p
 take_end slots p none b ws r = at_end b p ws (subst (λ (q : List ℕ). Reads b q p ws) (nil_from_length slots (omega arith)) r)

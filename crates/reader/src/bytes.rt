@@ -2,13 +2,14 @@
 ghost use Rattle.std.specs.Prelude.{◌≡◌};
 ghost use Rattle.reader.specs.Bytes.{bit as bit_of, value_of, acknowledges, address_of, direction_of};
 
+use crate::{ONE, ZERO};
 use bus::Direction;
 
-// What a slot of that rank counts as a bit: rank 3 is a 1.
+// What a slot of that rank counts as a bit.
 fn bit(rank: u8) -> u8
     ensures { result ≡ bit_of rank }
 {
-    u8::from(rank == 3)
+    u8::from(rank == ONE)
 }
 
 // The value of a byte.
@@ -31,7 +32,7 @@ pub fn acknowledged(slots: &[u8; 9]) -> bool
     ensures { result ≡ acknowledges slots.now }
 {
     let [_b7, _b6, _b5, _b4, _b3, _b2, _b1, _b0, ack] = slots;
-    *ack == 0
+    *ack == ZERO
 }
 
 // The address in an address byte: all its bits but the last.
@@ -46,7 +47,7 @@ pub fn direction(slots: &[u8; 9]) -> Direction
     ensures { result ≡ direction_of slots.now }
 {
     let [_a6, _a5, _a4, _a3, _a2, _a1, _a0, read, _ack] = slots;
-    if *read == 3 {
+    if *read == ONE {
         Direction::Read
     } else {
         Direction::Write

@@ -22,6 +22,7 @@ pub fn check(slots: &[u8]) -> Result<(), Refusal>
 {
     let mut turn = Turn::Free;
     let mut left = slots;
+    // slot by slot off the front, as the turns are defined: what is left has to follow them from here
     while let [first, rest @ ..] = left {
         let Some(next) = follow(turn, *first) else {
             return Err(Refusal::AgainstTurns {

@@ -14,6 +14,15 @@ pub use checks::check;
 pub use listing::list;
 pub use words::Words;
 
+// The ranks of the symbols, as a record holds them.
+const ZERO: u8 = 0;
+
+const STOP: u8 = 1;
+
+const START: u8 = 2;
+
+const ONE: u8 = 3;
+
 // What a word is.
 #[derive(Clone, Copy, Debug, PartialEq, Eq, Hash)]
 pub enum Kind {

@@ -7,10 +7,11 @@ ghost use Rattle.reader.specs.Records.{Whole, WordsOf};
 ghost use Rattle.reader.specs.Cursors.{still, Left, Gives};
 ghost use Rattle.reader.specs.Refusals.{Wrong};
 
-use crate::{Word, check};
+use crate::{ONE, START, STOP, Word, check};
 use refusals::Refusal;
 
 // A record that was checked, the place of the next slot, and whether a contest is under way there.
+// It is Copy, so that the words can be counted and then taken.
 #[derive(Clone, Copy)]
 pub struct Words<'a> {
     slots: &'a [u8],
@@ -27,7 +28,7 @@ fn free_slots(slots: &[u8], busy: bool) -> usize
     if busy {
         return 0;
     }
-    slots.iter().take_while(|slot| **slot == 3).count()
+    slots.iter().take_while(|slot| **slot == ONE).count()
 }
 
 // The word that comes first where no free slot does: S, P, or the nine slots of a byte.
@@ -38,8 +39,8 @@ fn first_word<'a>(slots: &'a [u8], place: usize) -> Option<Word<'a>>
     ensures within { IfSome result (λ w. long (meant w) ≤ length slots.now) }
 {
     match slots {
-        [2, ..] => Some(Word::Start { place }),
-        [1, ..] => Some(Word::Stop { place }),
+        [START, ..] => Some(Word::Start { place }),
+        [STOP, ..] => Some(Word::Stop { place }),
         _ => {
             let slots = slots.first_chunk::<9>()?;
             Some(Word::Byte { place, slots })
