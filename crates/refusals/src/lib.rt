@@ -102,8 +102,5 @@ impl Error for Refusal {}
 pub fn returned<T: Drop>(res: Result<T, Refusal>) -> u8
     ensures { result ≡ returned_by res }
 {
-    match res {
-        Ok(_) => 0,
-        Err(refusal) => refusal.number(),
-    }
+    res.map_or_else(Refusal::number, |_| 0)
 }
