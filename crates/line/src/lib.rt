@@ -1,21 +1,18 @@
 // The line master: it works the turns directly.
 #![tactic(auto)]
 
-ghost use Rattle.std.specs.Prelude.{◌≡◌, cond, length};
+ghost use Rattle.std.specs.Prelude.{◌≡◌, cond};
 ghost use Rattle.bus.specs.declared.Turn.TheVariants.{Free};
 ghost use Rattle.bus.specs.Symbols.{is_stop};
 ghost use Rattle.scripts.specs.Scripts.{offer as offer_of};
-ghost use Rattle.orders.specs.Fills.{order_of};
-ghost use Rattle.masters.specs.Standings.{idle as idle_standing, contender_in, lost as lost_of, keeps as keeps_in, becomes as becomes_of, is_waiting, starting as starting_with};
-ghost use Rattle.masters.specs.Master as master;
+ghost use Rattle.masters.specs.Standings.{idle as idle_standing, contender_in, lost as lost_of, keeps as keeps_in, becomes as becomes_of, starting as starting_with};
 ghost use Rattle.line.specs.Line.{request_of, contender_of, contenders_of, standing_of, master_of};
 
 use bus::{Symbol, Turn};
+use masters::Master;
 use orders::{Answer, Order};
 use progress::{Finished, Progress};
 use refusals::Refusal;
-
-mod bank;
 
 // An order that waits, and how often it has lost.
 #[derive(Clone, Copy)]
@@ -119,39 +116,35 @@ impl Line {
             _ => None,
         }
     }
+}
 
-    pub fn offer(&self) -> Symbol
-        ensures { result ≡ master.offers (master_of self.now) }
-    {
+impl Master for Line {
+    ghost master = { master_of };
+
+    fn offer(&self) -> Symbol {
         self.contender()
             .map_or(Symbol::One, |contender| contender.progress.offer())
     }
 
-    // A slot carries the symbol.
-    pub fn hear(&mut self, carried: Symbol)
-        ensures { master_of self.new ≡ master.heard carried (master_of self.old) }
-    {
+    fn hear(&mut self, carried: Symbol) {
         if let Some(contender) = self.contender() {
             self.standing = contender.becomes(self.turn, carried);
         }
         self.turn = self.turn.next(carried);
     }
 
-    // Whether an order waits; a contender counts as waiting.
-    pub fn waits(&self) -> bool
-        ensures { result ≡ is_waiting (master_of self.now).standing }
-    {
+    fn free(&mut self) {
+        *self = Line::new();
+    }
+
+    fn waits(&self) -> bool {
         matches!(
             self.standing,
             Standing::Waiting(_) | Standing::Contending(_)
         )
     }
 
-    // Gives an idle master an order.
-    pub fn place(&mut self, order: Order) -> Result<(), Refusal>
-        ensures answer { result ≡ master.place_one (master_of self.old).standing }
-        ensures after { master_of self.new ≡ master.placing (order_of order) (master_of self.old) }
-    {
+    fn place(&mut self, order: Order) -> Result<(), Refusal> {
         let Standing::Idle = self.standing else {
             return Err(Refusal::NotIdle);
         };
@@ -159,11 +152,7 @@ impl Line {
         Ok(())
     }
 
-    // Makes a waiting master idle, on a free bus.
-    pub fn withdraw(&mut self) -> Result<(), Refusal>
-        ensures answer { result ≡ master.withdraw_one self.old.turn (master_of self.old).standing }
-        ensures after { master_of self.new ≡ master.withdrawing (master_of self.old) }
-    {
+    fn withdraw(&mut self) -> Result<(), Refusal> {
         match self.standing {
             Standing::Idle | Standing::Answered(_) => Err(Refusal::NotWaiting),
             Standing::Waiting(_) if !self.turn.is_busy() => {
@@ -174,12 +163,7 @@ impl Line {
         }
     }
 
-    // Hands over an answer once.
-    pub fn collect(&mut self, buffer: &mut [u8]) -> Result<Answer, Refusal>
-        ensures answer { result ≡ master.collect_one (length buffer.old) (master_of self.old).standing }
-        ensures bytes { buffer.new ≡ master.filled buffer.old (master_of self.old).standing }
-        ensures after { master_of self.new ≡ master.collecting (length buffer.old) (master_of self.old) }
-    {
+    fn collect(&mut self, buffer: &mut [u8]) -> Result<Answer, Refusal> {
         let Standing::Answered(finished) = self.standing else {
             return Err(Refusal::NotAnswered);
         };
