@@ -1,7 +1,6 @@
 // The register master: it works the registers of the block, and nothing else of it.
 #![tactic(auto)]
 
-mod bank;
 mod master;
 
 pub use master::Driver;

@@ -1,8 +1,7 @@
 // What a register master does.
-ghost use Rattle.std.specs.Prelude.{◌≡◌, false, length};
+ghost use Rattle.std.specs.Prelude.{◌≡◌, false};
 ghost use Rattle.bus.specs.declared.Turn.TheVariants.{Free};
-ghost use Rattle.orders.specs.Fills.{order_of};
-ghost use Rattle.masters.specs.Standings.{idle as idle_standing, is_waiting};
+ghost use Rattle.masters.specs.Standings.{idle as idle_standing};
 ghost use Rattle.masters.specs.Master as master;
 ghost use Rattle.block.specs.Access.{IICSE0 as status_register, read_value};
 ghost use Rattle.driving.specs.Driving.{assembled as assembled_block};
@@ -12,6 +11,7 @@ use super::Driver;
 use block::IICSE0;
 use bus::Symbol;
 use driving::{Drive, State, assembled, begin, is_starting, release};
+use masters::Master;
 use orders::{Answer, Order};
 use progress::Finished;
 use refusals::Refusal;
@@ -31,15 +31,24 @@ impl Driver {
         }
     }
 
-    pub fn offer(&self) -> Symbol
-        ensures { result ≡ master.offers (master_of self.now) }
+    // What IICSE0 reads as.
+    pub fn status(&self) -> u16
+        ensures { result ≡ read_value self.now.drive.block status_register }
     {
+        self.drive.block.read(IICSE0).unwrap_or(0)
+    }
+}
+
+impl Master for Driver {
+    ghost master = { master_of };
+
+    fn offer(&self) -> Symbol {
         self.drive.block.offer()
     }
 
-    // A slot carries the symbol. A P leaves ALD0 = 0.
-    pub fn hear(&mut self, carried: Symbol)
-        ensures master { master_of self.new ≡ master.heard carried (master_of self.old) }
+    // A P also leaves ALD0 = 0.
+    fn hear(&mut self, carried: Symbol)
+        ensures after { master_of self.new ≡ master.heard carried (master_of self.old) }
         ensures renewed { carried ≡ Symbol.Stop → self.new.drive.block.status.ald0 ≡ false }
     {
         let tried = is_starting(&self.drive.block);
@@ -49,29 +58,22 @@ impl Driver {
         self.drive.retry();
     }
 
-    // As at assembly.
-    pub fn free(&mut self)
-        ensures master { master_of self.new ≡ master.freed (master_of self.old) }
+    // The block too is as at assembly.
+    fn free(&mut self)
+        ensures after { master_of self.new ≡ master.freed (master_of self.old) }
         ensures block { self.new.drive.block ≡ assembled_block }
     {
         *self = Driver::new();
     }
 
-    // Whether an order waits; a contender counts as waiting.
-    pub fn waits(&self) -> bool
-        ensures { result ≡ is_waiting (master_of self.now).standing }
-    {
+    fn waits(&self) -> bool {
         matches!(
             self.drive.state,
             State::Waiting { .. } | State::Contending(_)
         )
     }
 
-    // Gives an idle master an order.
-    pub fn place(&mut self, order: Order) -> Result<(), Refusal>
-        ensures answer { result ≡ master.place_one (master_of self.old).standing }
-        ensures after { master_of self.new ≡ master.placing (order_of order) (master_of self.old) }
-    {
+    fn place(&mut self, order: Order) -> Result<(), Refusal> {
         let State::Idle = self.drive.state else {
             return Err(Refusal::NotIdle);
         };
@@ -81,11 +83,8 @@ impl Driver {
         Ok(())
     }
 
-    // Makes a waiting master idle, on a free bus, where its STT0 is set.
-    pub fn withdraw(&mut self) -> Result<(), Refusal>
-        ensures answer { result ≡ master.withdraw_one (master_of self.old).turn (master_of self.old).standing }
-        ensures after { master_of self.new ≡ master.withdrawing (master_of self.old) }
-    {
+    // Where an order waits on a free bus, STT0 is set.
+    fn withdraw(&mut self) -> Result<(), Refusal> {
         match self.drive.state {
             State::Idle | State::Answered { .. } => Err(Refusal::NotWaiting),
             State::Waiting { .. } if is_starting(&self.drive.block) => {
@@ -97,12 +96,7 @@ impl Driver {
         }
     }
 
-    // Hands over an answer once.
-    pub fn collect(&mut self, buffer: &mut [u8]) -> Result<Answer, Refusal>
-        ensures answer { result ≡ master.collect_one (length buffer.old) (master_of self.old).standing }
-        ensures bytes { buffer.new ≡ master.filled buffer.old (master_of self.old).standing }
-        ensures after { master_of self.new ≡ master.collecting (length buffer.old) (master_of self.old) }
-    {
+    fn collect(&mut self, buffer: &mut [u8]) -> Result<Answer, Refusal> {
         let State::Answered {
             losses,
             outcome,
@@ -115,12 +109,5 @@ impl Driver {
         let answer = finished.collect(buffer)?;
         self.drive.state = State::Idle;
         Ok(answer)
-    }
-
-    // What IICSE0 reads as.
-    pub fn status(&self) -> u16
-        ensures { result ≡ read_value self.now.drive.block status_register }
-    {
-        self.drive.block.read(IICSE0).unwrap_or(0)
     }
 }
