@@ -2,6 +2,7 @@
 use crate::status::check_flags;
 use bus::Symbol;
 use driver::Driver;
+use masters::Master;
 use orders::{Order, RawSegment};
 use std::process::Abort;
 use std::test::Fail;

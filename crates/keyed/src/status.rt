@@ -4,7 +4,7 @@ use crate::show;
 use chips::Gauge;
 use driver::Driver;
 use line::Line;
-use masters::Masters;
+use masters::Master;
 use slaves::Slaves;
 
 // The upper eight bits of a register master's status after the slots with these numbers, counted from 1.
