@@ -9,6 +9,7 @@ use crate::access::{Flag, begin, end, moved_byte, receive, renew, send, shows};
 use crate::{Contender, Drive, Phase, State};
 use bus::{Direction, Symbol};
 use orders::{Bytes, Outcome};
+use progress::one_more;
 
 impl Contender {
     // Further on.
@@ -38,12 +39,12 @@ impl Contender {
     }
 }
 
-// It waits with one loss more; 999 stay 999.
+// It waits with one loss more.
 fn lost(losses: u16) -> State
     ensures { known_of result ≡ kept (lost_of (known_of (State.Waiting losses))) }
 {
     State::Waiting {
-        losses: losses.min(998) + 1,
+        losses: one_more(losses),
     }
 }
 

@@ -11,7 +11,7 @@ ghost use Rattle.line.specs.Line.{request_of, contender_of, contenders_of, stand
 use bus::{Symbol, Turn};
 use masters::Master;
 use orders::{Answer, Order};
-use progress::{Finished, Progress};
+use progress::{Finished, Progress, one_more};
 use refusals::Refusal;
 
 // An order that waits, and how often it has lost.
@@ -64,13 +64,13 @@ impl Contender {
         }
     }
 
-    // It waits again, with one loss more; 999 stay 999.
+    // It waits again, with one loss more.
     fn lost(self) -> Request
         ensures { request_of result ≡ lost_of (contender_of self).request }
     {
         Request {
             order: self.progress.order(),
-            losses: self.losses.min(998) + 1,
+            losses: one_more(self.losses),
         }
     }
 

@@ -11,9 +11,11 @@ use bus::Direction;
 use orders::{Bytes, Outcome, Segment};
 
 mod finished;
+mod losses;
 mod script;
 
 pub use finished::Finished;
+pub use losses::one_more;
 pub use script::Progress;
 
 // Where in a segment. `bit` counts the bits that come after the next one, `byte` from 0.
