@@ -8,6 +8,9 @@ use orders::{Order, RawSegment};
 use refusals::returned;
 use std::alloc::AllocError;
 
+// The slots of the longest contest that there is.
+const LONGEST: usize = 329;
+
 // An order of one segment.
 #[derive(Clone, Copy)]
 pub enum Ask {
@@ -107,38 +110,35 @@ pub const QUESTIONS: [Question; 7] = [
 
 impl Ask {
     pub fn order(self) -> anyhow::Result<Order> {
-        let (address, direction, count, bytes): (u16, u16, u16, &[u8]) = match self {
-            Ask::Write { address, bytes } => (address, 0, u16::try_from(bytes.len())?, bytes),
-            Ask::Read { address, count } => (address, 1, count, &[]),
+        let order = match self {
+            Ask::Write { address, bytes } => {
+                let count = u16::try_from(bytes.len())?;
+                Order::filled(&[RawSegment::write(address, count)], bytes)?
+            }
+            Ask::Read { address, count } => {
+                Order::filled(&[RawSegment::read(address, count)], &[])?
+            }
         };
-        let segment = RawSegment {
-            address,
-            direction,
-            count,
-        };
-        let mut order = Order::new();
-        order.fill(&[segment], bytes)?;
         Ok(order)
     }
 }
 
-// The ranks of the next contest, and a bar.
+// The ranks of the next contest, and a bar. `transfer` follows a contest too, but prints each slot as it comes.
 fn contest<M: Masters>(
     bench: &mut Bench<M, Pair<Gauge, Memory>>,
     text: &mut String,
-) -> Result<(), AllocError> {
+) -> anyhow::Result<()> {
     let mut turn = Turn::Free;
-    for _ in 0..329 {
+    for _ in 0..LONGEST {
         let rank = bench.step();
         write!(text, "{rank} ")?;
-        if let Ok(symbol) = Symbol::try_from(rank) {
-            turn = turn.next(symbol);
-        }
+        turn = turn.next(Symbol::try_from(rank)?);
         if !turn.is_busy() {
             break;
         }
     }
-    write!(text, "|")
+    write!(text, "|")?;
+    Ok(())
 }
 
 // What a master hands over: 0 and its answer, or the number of the refusal. `swap` and `transfer` print answers in other forms.
@@ -160,7 +160,7 @@ fn handed<M: Masters>(
                 answer.losses,
                 answer.count
             )?;
-            for byte in buffer.iter().take(answer.count as usize) {
+            for byte in answer.bytes(&buffer) {
                 write!(text, " {byte}")?;
             }
             Ok(())
@@ -169,14 +169,14 @@ fn handed<M: Masters>(
     }
 }
 
-// The first contest of the two orders; whether it is as expected.
+// The first contest of the two orders.
 pub fn compare<A: Masters + Drop, B: Masters + Drop>(
     rt: &(impl Print + AllocGlobal),
     makes: &str,
     left: A,
     right: B,
     question: Question,
-) -> anyhow::Result<bool> {
+) -> anyhow::Result<()> {
     let slaves = Pair {
         left: Gauge::new(72, [0; 4])?,
         right: Memory::new(80)?,
@@ -191,26 +191,19 @@ pub fn compare<A: Masters + Drop, B: Masters + Drop>(
     handed(&mut bench, 0, &mut came)?;
     write!(came, " |")?;
     handed(&mut bench, 1, &mut came)?;
-    Ok(show(rt, makes, question.expected, came.as_str())?)
+    show(rt, makes, question.expected, came.as_str())
 }
 
-// What fill returns for a write of so many bytes to an address, of which none are given.
+// What an order returns that writes so many bytes to an address, of which none are given.
 fn filled(address: u16, count: u16) -> u8 {
-    returned(Order::new().fill(
-        &[RawSegment {
-            address,
-            direction: 0,
-            count,
-        }],
-        &[],
-    ))
+    returned(Order::filled(&[RawSegment::write(address, count)], &[]))
 }
 
 fn made(address: u16) -> u8 {
     returned(Gauge::new(address, [0; 4]))
 }
 
-pub fn refusals(rt: &(impl Print + AllocGlobal)) -> anyhow::Result<bool> {
+pub fn refusals(rt: &(impl Print + AllocGlobal)) -> anyhow::Result<()> {
     let heap = rt.alloc();
     let orders = format!(in heap;
         "{} {} {} {}",
@@ -221,8 +214,7 @@ pub fn refusals(rt: &(impl Print + AllocGlobal)) -> anyhow::Result<bool> {
     )?;
     let slaves = format!(in heap; "{} {} {} {}", made(7), made(8), made(119), made(120))?;
     let bytes = format!(in heap; "{}", filled(80, 33))?;
-    let addressed = show(rt, "an order to 7, 8, 119, 120", "2 0 0 2", orders.as_str())?;
-    let numbered = show(rt, "a slave at 7, 8, 119, 120", "2 0 0 2", slaves.as_str())?;
-    let counted = show(rt, "33 bytes", "5", bytes.as_str())?;
-    Ok(addressed && numbered && counted)
+    show(rt, "an order to 7, 8, 119, 120", "2 0 0 2", orders.as_str())?;
+    show(rt, "a slave at 7, 8, 119, 120", "2 0 0 2", slaves.as_str())?;
+    show(rt, "33 bytes", "5", bytes.as_str())
 }

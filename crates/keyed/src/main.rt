@@ -5,49 +5,48 @@ mod contests;
 mod status;
 
 use anyhow::anyhow;
-use contests::QUESTIONS;
+use contests::{QUESTIONS, Question, compare, refusals};
 use driver::Driver;
 use line::Line;
-use std::io;
+use status::ROWS;
 
-// What was expected and what came; whether they are the same.
-fn show(rt: &impl Print, what: &str, expected: &str, came: &str) -> io::Result<bool> {
-    let same = expected == came;
+// What was expected and what came, which must be the same.
+fn show(rt: &impl Print, what: &str, expected: &str, came: &str) -> anyhow::Result<()> {
     println!(rt; "  {what}: expected {expected}; came {came}")?;
-    println!(rt; "    {}", if same { "same" } else { "DIFFERENT" })?;
-    Ok(same)
+    if expected != came {
+        println!(rt; "    DIFFERENT")?;
+        return Err(anyhow!("an answer differs from the key"));
+    }
+    println!(rt; "    same")?;
+    Ok(())
 }
 
-// Each question, with the masters of those makes; whether all came as expected.
-fn asked(rt: &(impl Print + AllocGlobal)) -> anyhow::Result<bool> {
-    let mut same = true;
-    for question in QUESTIONS {
-        println!(rt; "{}", question.what)?;
-        // Each pair of makes is a type of its own, so no table holds them.
-        same &= contests::compare(rt, "line, line", Line::new(), Line::new(), question)?;
-        same &= contests::compare(rt, "register, line", Driver::new(), Line::new(), question)?;
-        same &= contests::compare(rt, "line, register", Line::new(), Driver::new(), question)?;
-        same &= contests::compare(
-            rt,
-            "register, register",
-            Driver::new(),
-            Driver::new(),
-            question,
-        )?;
-    }
-    Ok(same)
+// A question, with the masters of those makes. Each pair of makes is a type of its own, so no table holds them.
+fn ask(rt: &(impl Print + AllocGlobal), question: Question) -> anyhow::Result<()> {
+    println!(rt; "{}", question.what)?;
+    compare(rt, "line, line", Line::new(), Line::new(), question)?;
+    compare(rt, "register, line", Driver::new(), Line::new(), question)?;
+    compare(rt, "line, register", Line::new(), Driver::new(), question)?;
+    compare(
+        rt,
+        "register, register",
+        Driver::new(),
+        Driver::new(),
+        question,
+    )
 }
 
 fn run(rt: &(impl Print + AllocGlobal)) -> anyhow::Result<()> {
-    let contests = asked(rt)?;
-    println!(rt; "refusals")?;
-    let refusals = contests::refusals(rt)?;
-    println!(rt; "IICSE0 of a register master, bits 15 to 8")?;
-    let rows = status::rows(rt)?;
-    if contests && refusals && rows {
-        return Ok(());
+    for question in QUESTIONS {
+        ask(rt, question)?;
     }
-    Err(anyhow!("an answer differs from the key"))
+    println!(rt; "refusals")?;
+    refusals(rt)?;
+    println!(rt; "IICSE0 of a register master, bits 15 to 8")?;
+    for row in ROWS {
+        status::check(rt, row)?;
+    }
+    Ok(())
 }
 
 fn main(rt: HostRuntime) -> anyhow::Result<()> {
