@@ -8,57 +8,99 @@ use bus::Direction;
 use made::{CUT_OFF, READ, RECORDS, REPEATED_START};
 use reader::{Kind, Listed, Word, Words, acknowledged, address, direction, list, value};
 use refusals::Refusal;
+use std::{fmt, io};
 
-// A refusal: its number, and the place of an offence.
-fn refuse(rt: &impl Print, refusal: Refusal) -> anyhow::Result<()> {
-    match refusal {
-        Refusal::AgainstTurns { place } => println!(rt; "{} at {place}", refusal.number())?,
-        _ => println!(rt; "{}", refusal.number())?,
+// What the reader made of a record, after a 0, or the number of its refusal, with the place of an offence.
+#[derive(Drop)]
+struct Reading<T: Drop>(Result<T, Refusal>);
+
+// Each word with its place.
+#[derive(Drop)]
+struct Told<'a>(Words<'a>);
+
+// How many words a book was given, and the kind and place of each.
+#[derive(Drop)]
+struct Marked<'a>(&'a [Listed]);
+
+// How many slots and words a record has, and what its bytes add up to.
+#[derive(Drop)]
+struct Summed {
+    slots: usize,
+    words: usize,
+    sum: u64,
+}
+
+impl<T: fmt::Display + Drop> fmt::Display for Reading<T> {
+    fn fmt<W: fmt::Write>(&self, f: &mut fmt::Formatter<W>) -> fmt::Result {
+        match &self.0 {
+            Ok(made) => write!(f, "0{made}"),
+            Err(refusal) => {
+                write!(f, "{}", refusal.number())?;
+                if let Refusal::AgainstTurns { place } = refusal {
+                    write!(f, " at {place}")?;
+                }
+                Ok(())
+            }
+        }
     }
-    Ok(())
 }
 
 // A byte: after a start the address and direction, else the value; + where it is acknowledged, - where not.
-fn show_byte(rt: &impl Print, place: usize, slots: &[u8; 9], first: bool) -> anyhow::Result<()> {
+fn tell_byte<W: fmt::Write>(
+    f: &mut fmt::Formatter<W>,
+    slots: &[u8; 9],
+    first: bool,
+) -> fmt::Result {
     let ninth = if acknowledged(slots) { '+' } else { '-' };
-    if first {
-        let way = match direction(slots) {
-            Direction::Write => 'W',
-            Direction::Read => 'R',
-        };
-        print!(rt; " {place}:{}{way}{ninth}", address(slots))?;
-    } else {
-        print!(rt; " {place}:{}{ninth}", value(slots))?;
+    if !first {
+        return write!(f, "{}{ninth}", value(slots));
     }
-    Ok(())
+    let way = match direction(slots) {
+        Direction::Write => 'W',
+        Direction::Read => 'R',
+    };
+    write!(f, "{}{way}{ninth}", address(slots))
 }
 
-// Each word with its place.
-fn show_words(rt: &impl Print, words: Words) -> anyhow::Result<()> {
-    let mut first = false;
-    print!(rt; "0")?;
-    for word in words {
-        match word {
-            Word::Start { place } => print!(rt; " {place}:S")?,
-            Word::Stop { place } => print!(rt; " {place}:P")?,
-            Word::Byte { place, slots } => show_byte(rt, place, slots, first)?,
+impl fmt::Display for Told<'_> {
+    fn fmt<W: fmt::Write>(&self, f: &mut fmt::Formatter<W>) -> fmt::Result {
+        // A flag: whether a byte is an address byte is told by the word before it alone.
+        let mut first = false;
+        for word in self.0 {
+            write!(f, " {}:", word.listed().place)?;
+            match word {
+                Word::Start { .. } => write!(f, "S")?,
+                Word::Stop { .. } => write!(f, "P")?,
+                Word::Byte { slots, .. } => tell_byte(f, slots, first)?,
+            }
+            first = matches!(word, Word::Start { .. });
         }
-        first = matches!(word, Word::Start { .. });
-    }
-    println!(rt; "")?;
-    Ok(())
-}
-
-// A record: 0 and its words, or the refusal.
-fn read(rt: &impl Print, slots: &[u8]) -> anyhow::Result<()> {
-    match Words::of(slots) {
-        Ok(words) => show_words(rt, words),
-        Err(refusal) => refuse(rt, refusal),
+        Ok(())
     }
 }
 
-// A record listed in a book of five places: 0, the count, and the kind and place of each word; or the refusal.
-fn read_into_book(rt: &impl Print, slots: &[u8]) -> anyhow::Result<()> {
+impl fmt::Display for Marked<'_> {
+    fn fmt<W: fmt::Write>(&self, f: &mut fmt::Formatter<W>) -> fmt::Result {
+        write!(f, ": {} words,", self.0.len())?;
+        for listed in self.0 {
+            write!(f, " {}@{}", listed.kind.number(), listed.place)?;
+        }
+        Ok(())
+    }
+}
+
+impl fmt::Display for Summed {
+    fn fmt<W: fmt::Write>(&self, f: &mut fmt::Formatter<W>) -> fmt::Result {
+        write!(
+            f,
+            ": {} slots, {} words, bytes add up to {}",
+            self.slots, self.words, self.sum
+        )
+    }
+}
+
+// Lists a record in a book of five places.
+fn print_marked(rt: &impl Print, slots: &[u8]) -> io::Result<()> {
     let mut places = [Listed {
         kind: Kind::Start,
         place: 0,
@@ -66,49 +108,40 @@ fn read_into_book(rt: &impl Print, slots: &[u8]) -> anyhow::Result<()> {
     let mut book = Book::new(&mut places);
     let done = list(slots, &mut book);
     let total = book.close();
-    if let Err(refusal) = done {
-        return refuse(rt, refusal);
-    }
-    print!(rt; "0: {total} words,")?;
-    for listed in places.iter().take(total) {
-        print!(rt; " {}@{}", listed.kind.number(), listed.place)?;
-    }
-    println!(rt; "")?;
-    Ok(())
+    println!(rt; "{}", Reading(done.map(|_| Marked(&places[..total]))))
 }
 
-// A long record: 0, how many words it has, and what its bytes add up to.
-fn read_long(rt: &impl Print, slots: &[u8]) -> anyhow::Result<()> {
-    let words = match Words::of(slots) {
-        Ok(words) => words,
-        Err(refusal) => return refuse(rt, refusal),
-    };
-    let count = words.count();
+fn add_up(slots: &[u8]) -> Result<Summed, Refusal> {
+    let words = Words::of(slots)?;
     let mut sum = 0u64;
     for word in words {
         if let Word::Byte { slots, .. } = word {
             sum = sum.saturating_add(u64::from(value(slots)));
         }
     }
-    println!(rt;
-        "0: {} slots, {count} words, bytes add up to {sum}",
-        slots.len()
-    )?;
-    Ok(())
+    Ok(Summed {
+        slots: slots.len(),
+        words: words.count(),
+        sum,
+    })
 }
 
 fn run(rt: &(impl Print + AllocGlobal)) -> anyhow::Result<()> {
     let heap = rt.alloc();
     for text in RECORDS {
         let slots = made::ranks(heap, text)?;
-        read(rt, slots.as_slice())?;
+        println!(rt;
+            "{}",
+            Reading(Words::of(slots.as_slice()).map(|words| Told(words)))
+        )?;
     }
     for text in [READ, REPEATED_START, CUT_OFF] {
         let slots = made::ranks(heap, text)?;
-        read_into_book(rt, slots.as_slice())?;
+        print_marked(rt, slots.as_slice())?;
     }
     let long = made::long(heap)?;
-    read_long(rt, long.as_slice())
+    println!(rt; "{}", Reading(add_up(long.as_slice())))?;
+    Ok(())
 }
 
 fn main(rt: HostRuntime) -> anyhow::Result<()> {
