@@ -25,7 +25,7 @@ fn run<M: Masters>(
     Ok(())
 }
 
-// Writes down what a master hands over: its answer, or the number of the refusal.
+// Writes down what a master hands over: its answer, or the number of the refusal. `keyed` and `transfer` print answers in other forms.
 fn collect<M: Masters>(
     bench: &mut Bench<M, Pair<Gauge, Memory>>,
     master: usize,
@@ -43,7 +43,7 @@ fn collect<M: Masters>(
                 outcome.byte(),
                 answer.losses
             )?;
-            for byte in buffer.iter().take(answer.count as usize) {
+            for byte in answer.bytes(&buffer) {
                 write!(text, " {byte}")?;
             }
             Ok(())
