@@ -16,19 +16,7 @@ type KeyBench = Bench<Pair<Driver, Line>, Pair<Gauge, Memory>>;
 
 const SLOTS: u64 = 10_000_000;
 
-// A write of 32 bytes to the memory, or a read of 32 bytes from the gauge.
-fn order(address: u16, direction: u16, bytes: &[u8]) -> Result<Order, Refusal> {
-    let mut order = Order::new();
-    let segment = RawSegment {
-        address,
-        direction,
-        count: 32,
-    };
-    order.fill(&[segment], bytes)?;
-    Ok(order)
-}
-
-// Hands over what the last run brought, and gives the master an order again.
+// Hands over what the last run brought, and gives the master an order again. Before the first run there is no answer.
 fn renew(bench: &mut KeyBench, number: usize, order: Order) -> Result<(), Refusal> {
     let mut buffer = [0; 32];
     let _ = bench.collect(number, &mut buffer);
@@ -48,8 +36,8 @@ fn run(bench: &mut KeyBench, write: Order, read: Order) -> Result<u64, Refusal> 
 
 // Runs until the slots are moved: how many runs, and how many slots. A `for`, so that it ends even where nothing moves.
 fn run_all(bench: &mut KeyBench) -> Result<(u64, u64), Refusal> {
-    let write = order(80, 0, &[7; 32])?;
-    let read = order(72, 1, &[])?;
+    let write = Order::filled(&[RawSegment::write(80, 32)], &[7; 32])?;
+    let read = Order::filled(&[RawSegment::read(72, 32)], &[])?;
     let mut moved = 0u64;
     for runs in 0..SLOTS {
         if moved >= SLOTS {
@@ -74,7 +62,7 @@ fn measure(rt: &(impl Print + Eprint + Clock)) -> anyhow::Result<()> {
     let (runs, moved) = run_all(&mut bench)?;
     let micros = start.elapsed(rt)?.as_micros();
     println!(rt; "{moved} slots in {runs} runs")?;
-    if let Some(rate) = (moved as u128 * 1_000_000).checked_div(micros) {
+    if let Some(rate) = (u128::from(moved) * 1_000_000).checked_div(micros) {
         eprintln!(rt; "{rate} slots a second")?;
     }
     Ok(())
