@@ -10,7 +10,7 @@ use line::Line;
 use orders::{Order, RawSegment};
 use reader::{Word, Words};
 use refusals::Refusal;
-use text::{print_answer, print_slot, print_word};
+use text::{Bytes, print_answer, print_slot, print_word};
 
 const ADDRESS: u16 = 72;
 
@@ -20,29 +20,19 @@ const READ: u16 = 2;
 
 const REGISTERS: [u8; 4] = [25, 130, 7, 0];
 
-// The longest contest that there is.
+// The slots of the longest contest that there is.
 const LONGEST: usize = 329;
 
 // The pointer written, a repeated start, and the registers read.
 fn order() -> Result<Order, Refusal> {
-    let mut order = Order::new();
     let segments = [
-        RawSegment {
-            address: ADDRESS,
-            direction: 0,
-            count: 1,
-        },
-        RawSegment {
-            address: ADDRESS,
-            direction: 1,
-            count: READ,
-        },
+        RawSegment::write(ADDRESS, 1),
+        RawSegment::read(ADDRESS, READ),
     ];
-    order.fill(&segments, &[POINTER])?;
-    Ok(order)
+    Order::filled(&segments, &[POINTER])
 }
 
-// Moves slots until the bus is free again, prints each, and keeps their ranks.
+// Moves slots until the bus is free again, prints each, and keeps their ranks. `keyed` follows a contest too, but prints no turns.
 fn follow(
     rt: &(impl Print + AllocGlobal),
     bench: &mut Bench<Line, Gauge>,
@@ -62,7 +52,7 @@ fn follow(
     Ok(())
 }
 
-// What a reader makes of the slots; the byte after a start is an address byte.
+// What a reader makes of the slots. A flag: whether a byte is an address byte is told by the word before it alone.
 fn read(rt: &(impl Print + AllocGlobal), record: &[u8]) -> anyhow::Result<()> {
     let mut address = false;
     for word in Words::of(record)? {
@@ -73,7 +63,10 @@ fn read(rt: &(impl Print + AllocGlobal), record: &[u8]) -> anyhow::Result<()> {
 }
 
 fn run(rt: &(impl Print + AllocGlobal)) -> anyhow::Result<()> {
-    println!(rt; "The gauge at address {ADDRESS} holds 25 130 7 0, its pointer at 0.")?;
+    println!(rt;
+        "The gauge at address {ADDRESS} holds{}, its pointer at 0.",
+        Bytes(&REGISTERS)
+    )?;
     println!(rt; "The order of the line master:")?;
     println!(rt; "  segment 0: write 1 byte to address {ADDRESS}: {POINTER}")?;
     println!(rt; "  segment 1: read {READ} bytes from address {ADDRESS}")?;
@@ -93,7 +86,7 @@ fn run(rt: &(impl Print + AllocGlobal)) -> anyhow::Result<()> {
     let mut buffer = [0; 32];
     let answer = bench.collect(0, &mut buffer)?;
     println!(rt; "")?;
-    print_answer(rt, answer, &buffer)?;
+    print_answer(rt, answer, answer.bytes(&buffer))?;
     Ok(())
 }
 

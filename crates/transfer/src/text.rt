@@ -41,37 +41,47 @@ pub fn print_slot(rt: &impl Print, number: usize, symbol: Symbol, turn: Turn) ->
 }
 
 // SDA over a slot: as SCL rises, then in the early and in the late half of its high time.
-fn wave(rank: u8) -> &'static str {
-    match Symbol::try_from(rank) {
-        Ok(Symbol::Zero) | Err(_) => "___",
-        Ok(Symbol::Stop) => "__-",
-        Ok(Symbol::Start) => "--_",
-        Ok(Symbol::One) => "---",
+#[derive(Drop)]
+struct Wave(Symbol);
+
+impl fmt::Display for Wave {
+    fn fmt<W: fmt::Write>(&self, f: &mut fmt::Formatter<W>) -> fmt::Result {
+        match self.0 {
+            Symbol::Zero => write!(f, "___"),
+            Symbol::Stop => write!(f, "__-"),
+            Symbol::Start => write!(f, "--_"),
+            Symbol::One => write!(f, "---"),
+        }
     }
 }
 
 // SCL and SDA over some slots: three marks a slot, low SCL and the two halves of high SCL.
-fn draw(rt: &(impl Print + AllocGlobal), ranks: &[u8]) -> io::Result<()> {
+fn draw(rt: &(impl Print + AllocGlobal), ranks: &[u8]) -> anyhow::Result<()> {
     let heap = rt.alloc();
     let mut clock = String::new(heap);
     let mut data = String::new(heap);
     for rank in ranks {
         clock.push_str("_--")?;
-        data.push_str(wave(*rank))?;
+        write!(data, "{}", Wave(Symbol::try_from(*rank)?))?;
     }
     println!(rt; "        SCL {clock}")?;
-    println!(rt; "        SDA {data}")
+    println!(rt; "        SDA {data}")?;
+    Ok(())
 }
 
-pub fn print_word(rt: &(impl Print + AllocGlobal), word: Word, address: bool) -> io::Result<()> {
+pub fn print_word(
+    rt: &(impl Print + AllocGlobal),
+    word: Word,
+    address: bool,
+) -> anyhow::Result<()> {
     match word {
         Word::Start { place } => {
             println!(rt; "  {place:>3} start")?;
-            draw(rt, &[2])
+            draw(rt, &[Symbol::Start.rank()])
         }
         Word::Stop { place } => {
             println!(rt; "  {place:>3} stop")?;
-            draw(rt, &[1])
+            draw(rt, &[Symbol::Stop.rank()])
         }
         Word::Byte { place, slots } => {
             let heard = if reader::acknowledged(slots) {
@@ -93,18 +103,29 @@ pub fn print_word(rt: &(impl Print + AllocGlobal), word: Word, address: bool) ->
     }
 }
 
-pub fn print_answer(rt: &impl Print, answer: Answer, bytes: &[u8; 32]) -> io::Result<()> {
+// Bytes, a space before each.
+#[derive(Drop)]
+pub struct Bytes<'a>(pub &'a [u8]);
+
+impl fmt::Display for Bytes<'_> {
+    fn fmt<W: fmt::Write>(&self, f: &mut fmt::Formatter<W>) -> fmt::Result {
+        for byte in self.0 {
+            write!(f, " {byte}")?;
+        }
+        Ok(())
+    }
+}
+
+// `keyed` and `swap` print answers in other forms.
+pub fn print_answer(rt: &impl Print, answer: Answer, bytes: &[u8]) -> io::Result<()> {
     let outcome = answer.outcome;
-    print!(rt;
-        "The answer: outcome {}, segment {}, byte {}, losses {}, {} bytes read:",
+    println!(rt;
+        "The answer: outcome {}, segment {}, byte {}, losses {}, {} bytes read:{}",
         outcome.number(),
         outcome.segment(),
         outcome.byte(),
         answer.losses,
-        answer.count
-    )?;
-    for byte in bytes.iter().take(answer.count as usize) {
-        print!(rt; " {byte}")?;
-    }
-    println!(rt; "")
+        answer.count,
+        Bytes(bytes)
+    )
 }
