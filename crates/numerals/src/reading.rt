@@ -16,6 +16,7 @@ fn digit(b: u8) -> Option<u16>
 }
 
 // The number that a word is: one to three digits, no leading zero.
+// An arm for each length: with `try_fold` (tried) the check finds neither that its sums fit nor what it comes to.
 fn number(word: &[u8]) -> Option<u16>
     ensures { MatchOption result ((n : ℕ) → Numeral word.now n → ⊥) (λ n. Numeral word.now n) }
 {
