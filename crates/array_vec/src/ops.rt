@@ -6,7 +6,7 @@ use super::ArrayVec;
 use std::alloc::AllocError;
 
 impl<T: Copy, const N: usize> ArrayVec<T, N> {
-    // No items yet; `filler` stands in the places that are left.
+    // No items yet; `filler` stands in the places that are left: a segment has no default of its own.
     pub fn new(filler: T) -> Self
         ensures { items_of result ≡ [] }
     {
