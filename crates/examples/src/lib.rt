@@ -6,6 +6,8 @@ mod driven;
 #[cfg(test)]
 mod marking;
 #[cfg(test)]
+mod parts;
+#[cfg(test)]
 mod reading;
 #[cfg(test)]
 mod status;

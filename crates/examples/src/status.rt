@@ -1,5 +1,6 @@
 // The manual's status rows, with WTIM0 = 1, of a master that keeps the bus and of a block that takes no part.
 // They are taken after each ninth slot and after P. An x stands where a row leaves a flag open.
+use crate::parts::{hear_bits, hear_own};
 use block::{Block, IIC0, IICC0, IICSE0};
 use bus::Symbol;
 use std::process::Abort;
@@ -35,49 +36,39 @@ fn check_row(rt: &impl Abort, block: &Block, row: &[u8]) -> Result<(), Fail> {
     Ok(())
 }
 
+fn check_byte(rt: &impl Abort, block: &Block, byte: u8) -> Result<(), Fail> {
+    let register = block.read(IIC0).ok().ok_or("IIC0 is refused")?;
+    assert_eq!(rt; register, u16::from(byte));
+    Ok(())
+}
+
 fn write(rt: &impl Abort, block: &mut Block, offset: u32, value: u32) {
     assert!(rt; block.write(offset, value).is_ok());
 }
 
-// The bus carries what the block offers.
-fn hear_own(block: &mut Block) {
-    let own = block.offer();
-    block.hear(own);
-}
-
 fn start(rt: &impl Abort, block: &mut Block) {
     write(rt, block, IICC0, START);
-    hear_own(block);
+    hear_own(block, 1);
 }
 
 fn stop(rt: &impl Abort, block: &mut Block) -> Result<(), Fail> {
     write(rt, block, IICC0, STOP);
-    hear_own(block);
+    hear_own(block, 1);
     check_row(rt, block, b"00000001")
 }
 
 fn send(rt: &impl Abort, block: &mut Block, byte: u8, ninth: Symbol) -> Result<(), Fail> {
-    write(rt, block, IIC0, byte as u32);
-    for _ in 0..8 {
-        hear_own(block);
-    }
+    write(rt, block, IIC0, u32::from(byte));
+    hear_own(block, 8);
     block.hear(ninth);
-    assert!(rt; block.read(IIC0).ok().ok_or("IIC0 is refused")? == byte as u16);
-    Ok(())
-}
-
-fn hear_byte(block: &mut Block, byte: u8) {
-    for place in (0..8).rev() {
-        block.hear(Symbol::of_bit(byte, place));
-    }
+    check_byte(rt, block, byte)
 }
 
 fn receive(rt: &impl Abort, block: &mut Block, control: u32, byte: u8) -> Result<(), Fail> {
     write(rt, block, IICC0, control);
-    hear_byte(block, byte);
-    hear_own(block);
-    assert!(rt; block.read(IIC0).ok().ok_or("IIC0 is refused")? == byte as u16);
-    Ok(())
+    hear_bits(block, byte, 8);
+    hear_own(block, 1);
+    check_byte(rt, block, byte)
 }
 
 fn switched_on(rt: &impl Abort) -> Block {
@@ -86,17 +77,22 @@ fn switched_on(rt: &impl Abort) -> Block {
     block
 }
 
+// An address byte and two bytes are sent, the last one not acknowledged; the row after each.
+fn send_two_bytes(rt: &impl Abort, address: u8, rows: [&[u8]; 3]) -> Result<(), Fail> {
+    let mut block = switched_on(rt);
+    start(rt, &mut block);
+    send(rt, &mut block, address, Symbol::Zero)?;
+    check_row(rt, &block, rows[0])?;
+    send(rt, &mut block, 0x07, Symbol::Zero)?;
+    check_row(rt, &block, rows[1])?;
+    send(rt, &mut block, 0xC8, Symbol::One)?;
+    check_row(rt, &block, rows[2])?;
+    stop(rt, &mut block)
+}
+
 #[test]
 fn sends_two_bytes(rt: HostRuntime) -> Result<(), Fail> {
-    let mut block = switched_on(&rt);
-    start(&rt, &mut block);
-    send(&rt, &mut block, 0xA0, Symbol::Zero)?;
-    check_row(&rt, &block, b"1000x110")?;
-    send(&rt, &mut block, 0x07, Symbol::Zero)?;
-    check_row(&rt, &block, b"1000x100")?;
-    send(&rt, &mut block, 0xC8, Symbol::One)?;
-    check_row(&rt, &block, b"1000xx00")?;
-    stop(&rt, &mut block)
+    send_two_bytes(&rt, 0xA0, [b"1000x110", b"1000x100", b"1000xx00"])
 }
 
 #[test]
@@ -132,15 +128,7 @@ fn sends_then_receives(rt: HostRuntime) -> Result<(), Fail> {
 
 #[test]
 fn sends_after_an_extension_code(rt: HostRuntime) -> Result<(), Fail> {
-    let mut block = switched_on(&rt);
-    start(&rt, &mut block);
-    send(&rt, &mut block, 0xF0, Symbol::Zero)?;
-    check_row(&rt, &block, b"1010x110")?;
-    send(&rt, &mut block, 0x07, Symbol::Zero)?;
-    check_row(&rt, &block, b"1010x100")?;
-    send(&rt, &mut block, 0xC8, Symbol::One)?;
-    check_row(&rt, &block, b"1010xx00")?;
-    stop(&rt, &mut block)
+    send_two_bytes(&rt, 0xF0, [b"1010x110", b"1010x100", b"1010xx00"])
 }
 
 // Another master writes, and then reads from another address.
@@ -148,12 +136,12 @@ fn sends_after_an_extension_code(rt: HostRuntime) -> Result<(), Fail> {
 fn takes_no_part(rt: HostRuntime) -> Result<(), Fail> {
     let mut block = switched_on(&rt);
     block.hear(Symbol::Start);
-    hear_byte(&mut block, 0xA0);
+    hear_bits(&mut block, 0xA0, 8);
     block.hear(Symbol::Zero);
-    hear_byte(&mut block, 0x07);
+    hear_bits(&mut block, 0x07, 8);
     block.hear(Symbol::Zero);
     block.hear(Symbol::Start);
-    hear_byte(&mut block, 0x91);
+    hear_bits(&mut block, 0x91, 8);
     block.hear(Symbol::One);
     check_row(&rt, &block, b"00000x10")?;
     block.hear(Symbol::Stop);
