@@ -2,6 +2,7 @@
 use block::Block;
 use bus::Symbol;
 use driver::Driver;
+use masters::Master;
 
 pub(crate) trait Part {
     fn offer(&self) -> Symbol;
@@ -21,11 +22,11 @@ impl Part for Block {
 
 impl Part for Driver {
     fn offer(&self) -> Symbol {
-        Driver::offer(self)
+        Master::offer(self)
     }
 
     fn hear(&mut self, carried: Symbol) {
-        Driver::hear(self, carried)
+        Master::hear(self, carried)
     }
 }
 
