@@ -1,5 +1,5 @@
 // Output lines.
-ghost use Rattle.std.specs.Prelude.{◌≡◌, ◌≤◌, [], ◌∷◌, length, take, IfOk, string_bytes};
+ghost use Rattle.std.specs.Prelude.{◌≡◌, [], ◌∷◌, take, IfOk, string_bytes};
 ghost use Rattle.refusals.specs.Numbers.{returned as returned_by};
 ghost use Rattle.orders.specs.Answers.{outcome_number, segment_at_fault, byte_at_fault};
 ghost use Rattle.numerals.specs.Lines.{text as text_of};
@@ -42,7 +42,6 @@ pub(crate) fn answer_reply(
     answer: Answer,
     buffer: &[u8],
 ) -> Result<String, AllocError>
-    requires { answer.count ≤ length buffer.now }
     ensures { IfOk result (λ s. string_bytes s ≡ text_of (5 ∷ (number ∷ (0 ∷ (outcome_number answer.outcome ∷ (segment_at_fault answer.outcome ∷ (byte_at_fault answer.outcome ∷ (answer.losses ∷ (answer.count ∷ take answer.count buffer.now))))))))) }
 {
     let numbers = [
@@ -58,6 +57,6 @@ pub(crate) fn answer_reply(
         heap,
         Kind::Collect.number(),
         &numbers,
-        &buffer[..usize::from(answer.count)],
+        answer.bytes(buffer),
     )
 }

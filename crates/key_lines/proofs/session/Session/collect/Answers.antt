@@ -4,11 +4,6 @@ use Rattle.bench.specs.Benches.{model}
 use Rattle.key_lines.proofs.Collecting.{collected}
 use Rattle.key_lines.proofs.session.Session.collect.Goals as goal
 
-pub answer_reply-requires : goal.answer_reply-requires
-answer_reply-requires g c =
-    let did = c.collect.ensures in
-    (collected (model g.M.Masters g.S.Slaves c.args.self.now.bench) c.args.number c.from.result _ c.collect.new.buffer c.collect.result (Ok c.in-Ok.answer) refl c.from.ensures did.answer c.in-Ok.is did.bytes).0
-
 pub returns-in-Ok-clause-answer : goal.returns-in-Ok-clause-answer
 returns-in-Ok-clause-answer g c =
     let did = c.collect.ensures in
