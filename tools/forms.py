@@ -55,20 +55,20 @@ def parameters():
 
 
 POINTS = {
-    '1a a None or an error handed on without ?': lines(r'let (Some|Ok)\(.*else \{$', r'return None') + lines(r'Err\(\w+\) => Err\(|None => None'),
-    '1b a Result or an Option taken apart by hand': lines(r'^\s*(Ok|Err|None|Some)\(?\w*\(?\)?\)? => (\(\)|0|1|false|true|None|Some|Ok|Symbol|refusal|value)'),
-    '1c a flag beside a value': lines(r'&mut.*-> bool') + lines(r'let mut \w+ = (true|false);'),
-    '1d numbers for kinds': lines(r'^\s*[0-9]+ => ') + lines(r'_reply\(heap, [0-9]') + lines(r'fn (number|rank)\(self\)'),
-    '1e own enums of the shape of Option or Result': lines(r'^\s+(Nothing|Nobody|Missing),$'),
-    '3a an index counted by hand': lines(r'while | \+= 1;| -= 1;'),
-    '3b a loop over numbers, or with an index': lines(r'for .* in .*\.\.') + lines(r'enumerate\(\)'),
-    '4a equality and order': lines(r'fn against|rank\(\) [=<]=|fn same\('),
-    '4b conversion': lines(r'fn (of_\w+|bit|value|new)\((self|value: u8|rank: u8|bit: Symbol|early: Level, late: Level)\)'),
-    '4c printing': lines(r"fn (letter|level|wave|word|verdict)\(|-> &'static str") + lines(r'push_str\(format!'),
-    '5a clauses in three contracts or more': clauses(),
-    '5b pairs of parameters in three functions of a crate or more': parameters(),
-    '6 buffers with a length beside, tables by number': lines(r'^\s+(pub )?used: ') + lines(r'fn (name|first|second|numbered)\(.*number: u8'),
-    '7 a switch on which step to run': lines(r'Row::\w+ =>'),
+    '1 on: a None or an error handed on without ?': lines(r'let (Some|Ok)\(.*else \{$', r'return None') + lines(r'Err\(\w+\) => Err\(|None => None'),
+    '1 apart: a Result or an Option taken apart by hand': lines(r'^\s*(Ok|Err|None|Some)\(?\w*\(?\)?\)? => (\(\)|0|1|false|true|None|Some|Ok|Symbol|refusal|value)'),
+    '1 flags: a flag beside a value': lines(r'&mut.*-> bool') + lines(r'let mut \w+ = (true|false);'),
+    '1 kinds: numbers for kinds': lines(r'^\s*[0-9]+ => ') + lines(r'_reply\(heap, [0-9]') + lines(r'fn (number|rank)\(self\)'),
+    '1 enums: own enums of the shape of Option or Result': lines(r'^\s+(Nothing|Nobody|Missing),$'),
+    '3 index: an index counted by hand': lines(r'while | \+= 1;| -= 1;'),
+    '3 range: a loop over numbers, or with an index': lines(r'for .* in .*\.\.') + lines(r'enumerate\(\)'),
+    '4 order: equality and order': lines(r'fn against|rank\(\) [=<]=|fn same\('),
+    '4 convert: conversion': lines(r'fn (of_\w+|bit|value|new)\((self|value: u8|rank: u8|bit: Symbol|early: Level, late: Level)\)'),
+    '4 print: printing': lines(r"fn (letter|level|wave|word|verdict)\(|-> &'static str") + lines(r'push_str\(format!'),
+    '5 clauses: clauses in three contracts or more': clauses(),
+    '5 pairs: pairs of parameters in three functions of a crate or more': parameters(),
+    '6 buffers: buffers with a length beside, tables by number': lines(r'^\s+(pub )?used: ') + lines(r'fn (name|first|second|numbered)\(.*number: u8'),
+    '7 steps: a switch on which step to run': lines(r'Row::\w+ =>'),
 }
 for point, found in POINTS.items():
     if point.startswith(only):

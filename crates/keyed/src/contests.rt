@@ -1,5 +1,5 @@
 // Contests of two masters on a bench with a gauge at 72 and a memory at 80, all bytes 0.
-use crate::show;
+use crate::Tally;
 use bench::Bench;
 use bus::{Pair, Symbol, Turn};
 use chips::{Gauge, Memory};
@@ -172,6 +172,7 @@ fn handed<M: Masters>(
 // The first contest of the two orders.
 pub fn compare<A: Masters + Drop, B: Masters + Drop>(
     rt: &(impl Print + AllocGlobal),
+    tally: &mut Tally,
     makes: &str,
     left: A,
     right: B,
@@ -191,7 +192,7 @@ pub fn compare<A: Masters + Drop, B: Masters + Drop>(
     handed(&mut bench, 0, &mut came)?;
     write!(came, " |")?;
     handed(&mut bench, 1, &mut came)?;
-    show(rt, makes, question.expected, came.as_str())
+    Ok(tally.show(rt, makes, question.expected, came.as_str())?)
 }
 
 // What an order returns that writes so many bytes to an address, of which none are given.
@@ -203,7 +204,7 @@ fn made(address: u16) -> u8 {
     returned(Gauge::new(address, [0; 4]))
 }
 
-pub fn refusals(rt: &(impl Print + AllocGlobal)) -> anyhow::Result<()> {
+pub fn refusals(rt: &(impl Print + AllocGlobal), tally: &mut Tally) -> anyhow::Result<()> {
     let heap = rt.alloc();
     let orders = format!(in heap;
         "{} {} {} {}",
@@ -214,7 +215,7 @@ pub fn refusals(rt: &(impl Print + AllocGlobal)) -> anyhow::Result<()> {
     )?;
     let slaves = format!(in heap; "{} {} {} {}", made(7), made(8), made(119), made(120))?;
     let bytes = format!(in heap; "{}", filled(80, 33))?;
-    show(rt, "an order to 7, 8, 119, 120", "2 0 0 2", orders.as_str())?;
-    show(rt, "a slave at 7, 8, 119, 120", "2 0 0 2", slaves.as_str())?;
-    show(rt, "33 bytes", "5", bytes.as_str())
+    tally.show(rt, "an order to 7, 8, 119, 120", "2 0 0 2", orders.as_str())?;
+    tally.show(rt, "a slave at 7, 8, 119, 120", "2 0 0 2", slaves.as_str())?;
+    Ok(tally.show(rt, "33 bytes", "5", bytes.as_str())?)
 }

@@ -1,6 +1,6 @@
 // The status of a register master, slot by slot.
+use crate::Tally;
 use crate::contests::Ask;
-use crate::show;
 use chips::Gauge;
 use driver::Driver;
 use line::Line;
@@ -54,7 +54,7 @@ pub const ROWS: [Row; 3] = [
 ];
 
 // The row, at a gauge whose registers are 0.
-pub fn check(rt: &(impl Print + AllocGlobal), row: Row) -> anyhow::Result<()> {
+pub fn check(rt: &(impl Print + AllocGlobal), tally: &mut Tally, row: Row) -> anyhow::Result<()> {
     let mut driver = Driver::new();
     let mut other = Line::new();
     let mut gauge = Gauge::new(72, [0; 4])?;
@@ -72,5 +72,5 @@ pub fn check(rt: &(impl Print + AllocGlobal), row: Row) -> anyhow::Result<()> {
             write!(came, " {:08b}", driver.status() >> 8)?;
         }
     }
-    show(rt, row.what, row.expected, came.as_str())
+    Ok(tally.show(rt, row.what, row.expected, came.as_str())?)
 }
