@@ -13,8 +13,8 @@ use orders::{Bytes, Order, Outcome};
 pub enum Phase {
     Opening,
     Address,
-    Write,
-    Read,
+    Write { byte: u8 },
+    Read { byte: u8 },
     Stopping,
 }
 
@@ -25,7 +25,6 @@ pub struct Contender {
     pub losses: u16,
     pub phase: Phase,
     pub segment: u8,
-    pub byte: u8,
     pub outcome: Outcome,
     pub bytes: Bytes,
 }

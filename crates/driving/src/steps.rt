@@ -2,7 +2,7 @@
 ghost use Rattle.std.specs.Prelude.{◌≡◌};
 ghost use Rattle.orders.specs.Fills.{order_of};
 ghost use Rattle.progress.specs.Positions.{here};
-ghost use Rattle.driving.specs.States.{Contending, known_of, kept, Led};
+ghost use Rattle.driving.specs.States.{Contending, phase_of, byte_of, known_of, kept, Led};
 ghost use Rattle.driving.specs.Driving.{address_byte_of, sent, block_past, standing_past, ended, block_on, standing_on, going_block, going_known, with_standing, out_known, entered as entered_of, failed, lost as lost_of, heard_block, heard_known, loss_cleared, retried};
 
 use crate::access::{Flag, begin, end, moved_byte, receive, renew, send, shows};
@@ -13,20 +13,19 @@ use progress::one_more;
 
 impl Contender {
     // Further on.
-    fn at(self, phase: Phase, segment: u8, byte: u8) -> Contender
-        ensures { known_of (State.Contending result) ≡ with_standing (known_of (State.Contending self)) (Contending phase segment byte) }
+    fn at(self, phase: Phase, segment: u8) -> Contender
+        ensures { known_of (State.Contending result) ≡ with_standing (known_of (State.Contending self)) (Contending (phase_of phase) segment (byte_of phase)) }
     {
         Contender {
             phase,
             segment,
-            byte,
             ..self
         }
     }
 
     // MSTS0 = 0: its P was carried, or it lost.
     fn out(self, carried: Symbol) -> State
-        ensures { known_of result ≡ kept (out_known self.phase carried (known_of (State.Contending self))) }
+        ensures { known_of result ≡ kept (out_known (phase_of self.phase) carried (known_of (State.Contending self))) }
     {
         match (self.phase, carried) {
             (Phase::Stopping, Symbol::Stop) => State::Answered {
@@ -56,7 +55,6 @@ fn entered(losses: u16) -> State
         losses,
         phase: Phase::Address,
         segment: 0,
-        byte: 0,
         outcome: Outcome::Done,
         bytes: Bytes::new(),
     })
@@ -82,10 +80,10 @@ impl Drive {
         let next = contender.segment as u16 + 1;
         let on = if next < self.order.len() as u16 {
             begin(&mut self.block);
-            contender.at(Phase::Opening, next as u8, 0)
+            contender.at(Phase::Opening, next as u8)
         } else {
             end(&mut self.block);
-            contender.at(Phase::Stopping, contender.segment, 0)
+            contender.at(Phase::Stopping, contender.segment)
         };
         self.state = State::Contending(on);
     }
@@ -105,11 +103,11 @@ impl Drive {
         let on = match wanted.direction {
             Direction::Read => {
                 receive(&mut self.block, byte + 1 < count);
-                contender.at(Phase::Read, segment, next)
+                contender.at(Phase::Read { byte: next }, segment)
             }
             Direction::Write => {
                 send(&mut self.block, self.order.byte(segment, next));
-                contender.at(Phase::Write, segment, next)
+                contender.at(Phase::Write { byte: next }, segment)
             }
         };
         self.state = State::Contending(on);
@@ -122,7 +120,7 @@ impl Drive {
         end(&mut self.block);
         self.state = State::Contending(Contender {
             outcome,
-            ..contender.at(Phase::Stopping, contender.segment, 0)
+            ..contender.at(Phase::Stopping, contender.segment)
         });
     }
 
@@ -130,35 +128,30 @@ impl Drive {
     fn go(&mut self, contender: Contender)
         requires { self.old.state ≡ State.Contending contender }
         ensures { Led self.old self.new
-            (going_block (order_of self.old.order) contender.phase contender.segment contender.byte self.old.block)
-            (going_known (order_of self.old.order) contender.phase contender.segment contender.byte self.old.block (known_of self.old.state)) }
+            (going_block (order_of self.old.order) (phase_of contender.phase) contender.segment (byte_of contender.phase) self.old.block)
+            (going_known (order_of self.old.order) (phase_of contender.phase) contender.segment (byte_of contender.phase) self.old.block (known_of self.old.state)) }
     {
-        let Contender {
-            phase,
-            segment,
-            byte,
-            ..
-        } = contender;
-        if phase == Phase::Opening {
-            self.send_address(segment);
-            self.state = State::Contending(contender.at(Phase::Address, segment, 0));
-            return;
-        }
-        let Some(moved) = moved_byte(&self.block) else {
-            return;
-        };
+        let segment = contender.segment;
         let acknowledged = shows(&self.block, Flag::Ackd0);
-        match phase {
-            Phase::Address if acknowledged => self.go_on(contender, 0),
-            Phase::Address => self.give_up(contender, Outcome::NoAddress { segment }),
-            Phase::Write if acknowledged => self.go_on(contender, byte as u16 + 1),
-            Phase::Write => self.give_up(contender, Outcome::NoByte { segment, byte }),
-            Phase::Read => {
+        match (contender.phase, moved_byte(&self.block)) {
+            (Phase::Opening, _) => {
+                self.send_address(segment);
+                self.state = State::Contending(contender.at(Phase::Address, segment));
+            }
+            (Phase::Address, Some(_)) if acknowledged => self.go_on(contender, 0),
+            (Phase::Address, Some(_)) => self.give_up(contender, Outcome::NoAddress { segment }),
+            (Phase::Write { byte }, Some(_)) if acknowledged => {
+                self.go_on(contender, byte as u16 + 1);
+            }
+            (Phase::Write { byte }, Some(_)) => {
+                self.give_up(contender, Outcome::NoByte { segment, byte });
+            }
+            (Phase::Read { byte }, Some(moved)) => {
                 let mut bytes = contender.bytes;
                 bytes.push(moved);
                 self.go_on(Contender { bytes, ..contender }, byte as u16 + 1);
             }
-            Phase::Opening | Phase::Stopping => {}
+            (Phase::Stopping, _) | (_, None) => {}
         }
     }
 

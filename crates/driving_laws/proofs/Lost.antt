@@ -17,8 +17,7 @@ use Rattle.block.specs.Slots.{same, after_write, after_read}
 use Rattle.block.specs.Tasks.{offers, waits, starts}
 use Rattle.block.specs.Flags.{loss, flag}
 use Rattle.block.specs.Heard.{moved_on}
-use Rattle.driving.specs.declared.Phase.{Phase}
-use Rattle.driving.specs.States.{Waiting, Contending, Known}
+use Rattle.driving.specs.States.{Phase, Waiting, Contending, Known}
 use Rattle.driving.specs.Driving.{heard_block, heard_known, loss_cleared, retried, with_standing, lost, ends}
 use Rattle.driving_laws.specs.Tied.{patched, tied, phase_task}
 use Rattle.driving_laws.specs.Meaning.{standing_of}
