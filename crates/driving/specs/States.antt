@@ -6,12 +6,14 @@
 --     byte_of     the byte that it is about; before and after the bytes of a segment this is 0
 --     known_of    what a state of the code means; what a state has none of is 0, Done or no byte
 --     kept        what a state keeps of what is known; what it has no place for is 0, Done or no byte
+--     with_contender    a drive that contends so
 --     Led         what a step leads to: the order stands, and the block and what is known come to these
 use Rattle.std.specs.Prelude.{◌≡◌, ℕ, List, []}
 use Rattle.orders.specs.declared.Outcome.{Outcome}
 use Rattle.orders.specs.declared.Outcome.TheVariants.{Done}
 use Rattle.orders.specs.Held.{held}
 use Rattle.block.specs.declared.Block.{Block}
+use Rattle.driving.specs.declared.Contender.{Contender}
 use Rattle.driving.specs.declared.Drive.{Drive}
 use Rattle.driving.specs.declared.Phase as code
 use Rattle.driving.specs.declared.Phase.TheVariants as phase
@@ -65,6 +67,9 @@ kept_at Answered r = r
 
 abbrev pub kept : Known → Known
 kept r = kept_at r.standing r
+
+abbrev pub with_contender : Drive → Contender → Drive
+with_contender d c = record { block = d.block; order = d.order; state = state.Contending c }
 
 pub record Led (old new : Drive) (block : Block) (known : Known) : Type 0 where
   pub order_stands : new.order ≡ old.order

@@ -1,7 +1,7 @@
 // The block's registers, as the register master works them.
 ghost use Rattle.std.specs.Prelude.{◌≡◌, ◌+◌};
 ghost use Rattle.block.specs.Tasks.{starts};
-ghost use Rattle.block.specs.Access.{IICC0 as control_register, written};
+ghost use Rattle.block.specs.Access.{IICC0 as control_register, IICSE0 as status_register, written, read_value};
 ghost use Rattle.driving.specs.Driving.{shown, assembled as assembled_block, moved_byte, begun, ended, released as released_of, renewed, received, sent};
 
 use block::{Block, IIC0, IICC0, IICSE0};
@@ -93,12 +93,19 @@ pub(crate) fn send(block: &mut Block, byte: u8)
     let _ = block.write(IIC0, byte as u32);
 }
 
+// What IICSE0 reads as.
+pub fn status(block: &Block) -> u16
+    ensures { result ≡ read_value block.now status_register }
+{
+    block.read(IICSE0).unwrap_or(0)
+}
+
 // Whether IICSE0 shows the flag.
 pub(crate) fn shows(block: &Block, flag: Flag) -> bool
     ensures { result ≡ shown flag block.now.status }
 {
     after_accesses();
-    let status = block.read(IICSE0).unwrap_or(0);
+    let status = status(block);
     match flag {
         Flag::Msts0 => status / 0x8000 % 2 == 1,
         Flag::Ald0 => status / 0x4000 % 2 == 1,

@@ -4,7 +4,7 @@
 mod access;
 mod steps;
 
-pub use access::{assembled, begin, is_starting, release};
+pub use access::{assembled, begin, is_starting, release, status};
 use block::Block;
 use orders::{Bytes, Order, Outcome};
 

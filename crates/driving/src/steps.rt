@@ -2,7 +2,7 @@
 ghost use Rattle.std.specs.Prelude.{◌≡◌};
 ghost use Rattle.orders.specs.Fills.{order_of};
 ghost use Rattle.progress.specs.Positions.{here};
-ghost use Rattle.driving.specs.States.{Contending, phase_of, byte_of, known_of, kept, Led};
+ghost use Rattle.driving.specs.States.{Contending, phase_of, byte_of, known_of, kept, Led, with_contender};
 ghost use Rattle.driving.specs.Driving.{address_byte_of, sent, block_past, standing_past, ended, block_on, standing_on, going_block, going_known, with_standing, out_known, entered as entered_of, failed, lost as lost_of, heard_block, heard_known, loss_cleared, retried};
 
 use crate::access::{Flag, begin, end, moved_byte, receive, renew, send, shows};
@@ -73,24 +73,23 @@ impl Drive {
     }
 
     // An S before the next segment, or P.
-    fn go_past(&mut self, contender: Contender)
-        ensures { Led self.old self.new (block_past (order_of self.old.order) contender.segment self.old.block)
+    fn go_past(&mut self, contender: Contender) -> Contender
+        ensures { Led self.old (with_contender self.new result) (block_past (order_of self.old.order) contender.segment self.old.block)
             (with_standing (known_of (State.Contending contender)) (standing_past (order_of self.old.order) contender.segment)) }
     {
         let next = contender.segment as u16 + 1;
-        let on = if next < self.order.len() as u16 {
+        if next < self.order.len() as u16 {
             begin(&mut self.block);
             contender.at(Phase::Opening, next as u8)
         } else {
             end(&mut self.block);
             contender.at(Phase::Stopping, contender.segment)
-        };
-        self.state = State::Contending(on);
+        }
     }
 
     // Answers the wait: with that byte of the segment, or with what comes after the segment.
-    fn go_on(&mut self, contender: Contender, byte: u16)
-        ensures { Led self.old self.new (block_on (order_of self.old.order) contender.segment byte self.old.block)
+    fn go_on(&mut self, contender: Contender, byte: u16) -> Contender
+        ensures { Led self.old (with_contender self.new result) (block_on (order_of self.old.order) contender.segment byte self.old.block)
             (with_standing (known_of (State.Contending contender)) (standing_on (order_of self.old.order) contender.segment byte)) }
     {
         let segment = contender.segment;
@@ -100,7 +99,7 @@ impl Drive {
             return self.go_past(contender);
         }
         let next = byte as u8;
-        let on = match wanted.direction {
+        match wanted.direction {
             Direction::Read => {
                 receive(&mut self.block, byte + 1 < count);
                 contender.at(Phase::Read { byte: next }, segment)
@@ -109,49 +108,47 @@ impl Drive {
                 send(&mut self.block, self.order.byte(segment, next));
                 contender.at(Phase::Write { byte: next }, segment)
             }
-        };
-        self.state = State::Contending(on);
+        }
     }
 
     // Nobody acknowledged: only its P is left.
-    fn give_up(&mut self, contender: Contender, outcome: Outcome)
-        ensures { Led self.old self.new (ended self.old.block) (failed (known_of (State.Contending contender)) outcome contender.segment) }
+    fn give_up(&mut self, contender: Contender, outcome: Outcome) -> Contender
+        ensures { Led self.old (with_contender self.new result) (ended self.old.block) (failed (known_of (State.Contending contender)) outcome contender.segment) }
     {
         end(&mut self.block);
-        self.state = State::Contending(Contender {
+        Contender {
             outcome,
             ..contender.at(Phase::Stopping, contender.segment)
-        });
+        }
     }
 
     // MSTS0 = 1 still. IIC0 is refused while a byte moves, and so tells its end.
-    fn go(&mut self, contender: Contender)
-        requires { self.old.state ≡ State.Contending contender }
-        ensures { Led self.old self.new
+    fn go(&mut self, contender: Contender) -> Contender
+        ensures { Led self.old (with_contender self.new result)
             (going_block (order_of self.old.order) (phase_of contender.phase) contender.segment (byte_of contender.phase) self.old.block)
-            (going_known (order_of self.old.order) (phase_of contender.phase) contender.segment (byte_of contender.phase) self.old.block (known_of self.old.state)) }
+            (going_known (order_of self.old.order) (phase_of contender.phase) contender.segment (byte_of contender.phase) self.old.block (known_of (State.Contending contender))) }
     {
         let segment = contender.segment;
         let acknowledged = shows(&self.block, Flag::Ackd0);
         match (contender.phase, moved_byte(&self.block)) {
             (Phase::Opening, _) => {
                 self.send_address(segment);
-                self.state = State::Contending(contender.at(Phase::Address, segment));
+                contender.at(Phase::Address, segment)
             }
             (Phase::Address, Some(_)) if acknowledged => self.go_on(contender, 0),
             (Phase::Address, Some(_)) => self.give_up(contender, Outcome::NoAddress { segment }),
             (Phase::Write { byte }, Some(_)) if acknowledged => {
-                self.go_on(contender, byte as u16 + 1);
+                self.go_on(contender, byte as u16 + 1)
             }
             (Phase::Write { byte }, Some(_)) => {
-                self.give_up(contender, Outcome::NoByte { segment, byte });
+                self.give_up(contender, Outcome::NoByte { segment, byte })
             }
             (Phase::Read { byte }, Some(moved)) => {
                 let mut bytes = contender.bytes;
                 bytes.push(moved);
-                self.go_on(Contender { bytes, ..contender }, byte as u16 + 1);
+                self.go_on(Contender { bytes, ..contender }, byte as u16 + 1)
             }
-            (Phase::Stopping, _) | (_, None) => {}
+            (Phase::Stopping, _) | (_, None) => contender,
         }
     }
 
@@ -169,7 +166,9 @@ impl Drive {
                 self.state = entered(losses);
             }
             State::Waiting { losses } => self.state = lost(losses),
-            State::Contending(contender) if is_master => self.go(contender),
+            State::Contending(contender) if is_master => {
+                self.state = State::Contending(self.go(contender));
+            }
             State::Contending(contender) => self.state = contender.out(carried),
             State::Idle | State::Answered { .. } => {}
         }

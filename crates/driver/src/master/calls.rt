@@ -8,9 +8,8 @@ ghost use Rattle.driving.specs.Driving.{assembled as assembled_block};
 ghost use Rattle.driver.specs.Driver.{master_of};
 
 use super::Driver;
-use block::IICSE0;
 use bus::Symbol;
-use driving::{Drive, State, assembled, begin, is_starting, release};
+use driving::{Drive, State, assembled, begin, is_starting, release, status};
 use masters::Master;
 use orders::{Answer, Order};
 use progress::Finished;
@@ -35,7 +34,7 @@ impl Driver {
     pub fn status(&self) -> u16
         ensures { result ≡ read_value self.now.drive.block status_register }
     {
-        self.drive.block.read(IICSE0).unwrap_or(0)
+        status(&self.drive.block)
     }
 }
 
