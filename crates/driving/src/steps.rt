@@ -129,15 +129,16 @@ impl Drive {
             (going_known (order_of self.old.order) (phase_of contender.phase) contender.segment (byte_of contender.phase) self.old.block (known_of (State.Contending contender))) }
     {
         let segment = contender.segment;
-        let acknowledged = shows(&self.block, Flag::Ackd0);
         match (contender.phase, moved_byte(&self.block)) {
             (Phase::Opening, _) => {
                 self.send_address(segment);
                 contender.at(Phase::Address, segment)
             }
-            (Phase::Address, Some(_)) if acknowledged => self.go_on(contender, 0),
+            (Phase::Address, Some(_)) if shows(&self.block, Flag::Ackd0) => {
+                self.go_on(contender, 0)
+            }
             (Phase::Address, Some(_)) => self.give_up(contender, Outcome::NoAddress { segment }),
-            (Phase::Write { byte }, Some(_)) if acknowledged => {
+            (Phase::Write { byte }, Some(_)) if shows(&self.block, Flag::Ackd0) => {
                 self.go_on(contender, byte as u16 + 1)
             }
             (Phase::Write { byte }, Some(_)) => {
