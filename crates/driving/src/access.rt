@@ -33,7 +33,7 @@ pub(crate) enum Flag {
 fn control(block: &mut Block, bits: u8)
     ensures { block.new ≡ written block.old control_register (136 + bits) }
 {
-    let _ = block.write(IICC0, ON as u32 + bits as u32);
+    let _ = block.write(IICC0, u32::from(ON) + u32::from(bits));
 }
 
 // A block at assembly.
@@ -71,7 +71,7 @@ pub(crate) fn renew(block: &mut Block)
     ensures { block.new ≡ renewed block.old }
 {
     if let Ok(word) = block.read(IICC0) {
-        let off = word as u32 % 0x80;
+        let off = u32::from(word) % 0x80;
         let _ = block.write(IICC0, off);
         let _ = block.write(IICC0, off + 0x80);
     }
@@ -90,7 +90,7 @@ pub(crate) fn receive(block: &mut Block, more: bool)
 pub(crate) fn send(block: &mut Block, byte: u8)
     ensures { block.new ≡ sent byte block.old }
 {
-    let _ = block.write(IIC0, byte as u32);
+    let _ = block.write(IIC0, u32::from(byte));
 }
 
 // What IICSE0 reads as.

@@ -77,8 +77,8 @@ impl Drive {
         ensures { Led self.old (with_contender self.new result) (block_past (order_of self.old.order) contender.segment self.old.block)
             (with_standing (known_of (State.Contending contender)) (standing_past (order_of self.old.order) contender.segment)) }
     {
-        let next = contender.segment as u16 + 1;
-        if next < self.order.len() as u16 {
+        let next = u16::from(contender.segment) + 1;
+        if next < u16::from(self.order.len()) {
             begin(&mut self.block);
             contender.at(Phase::Opening, next as u8)
         } else {
@@ -94,7 +94,7 @@ impl Drive {
     {
         let segment = contender.segment;
         let wanted = self.order.segment(segment);
-        let count = wanted.count as u16;
+        let count = u16::from(wanted.count);
         if byte >= count {
             return self.go_past(contender);
         }
@@ -139,7 +139,7 @@ impl Drive {
             }
             (Phase::Address, Some(_)) => self.give_up(contender, Outcome::NoAddress { segment }),
             (Phase::Write { byte }, Some(_)) if shows(&self.block, Flag::Ackd0) => {
-                self.go_on(contender, byte as u16 + 1)
+                self.go_on(contender, u16::from(byte) + 1)
             }
             (Phase::Write { byte }, Some(_)) => {
                 self.give_up(contender, Outcome::NoByte { segment, byte })
@@ -147,7 +147,7 @@ impl Drive {
             (Phase::Read { byte }, Some(moved)) => {
                 let mut bytes = contender.bytes;
                 bytes.push(moved);
-                self.go_on(Contender { bytes, ..contender }, byte as u16 + 1)
+                self.go_on(Contender { bytes, ..contender }, u16::from(byte) + 1)
             }
             (Phase::Stopping, _) | (_, None) => contender,
         }
