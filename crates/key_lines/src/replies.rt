@@ -53,10 +53,5 @@ pub(crate) fn answer_reply(
         answer.losses,
         u16::from(answer.count),
     ];
-    text(
-        heap,
-        Kind::Collect.number(),
-        &numbers,
-        answer.bytes(buffer),
-    )
+    text(heap, Kind::Collect.number(), &numbers, answer.bytes(buffer))
 }
