@@ -1,10 +1,10 @@
 // Slots as two half-slot levels.
 ghost use Rattle.std.specs.Prelude.{◌≡◌};
-ghost use Rattle.std.proofs.Common.{arith};
 ghost use Rattle.bus.specs.Levels.{early as early_of, late as late_of, levels, HalvesAgree};
 
 use crate::{Level, Symbol};
 use history::Mark;
+use std::cmp::Ordering;
 
 impl Symbol {
     // SDA in the early half of the slot.
@@ -45,7 +45,9 @@ impl From<(Level, Level)> for Symbol {
 impl Mark for Level {
     ghost marks = { levels };
 
-    ghost ranked = { λ a b. Prim.grind arith };
+    fn against(self, other: Level) -> Ordering {
+        self.cmp(&other)
+    }
 
     fn greatest() -> Level {
         Level::High

@@ -1,11 +1,11 @@
 // Symbols, their order, and the bits among them.
 ghost use Rattle.std.specs.Prelude.{◌≡◌, ◌/◌, ◌^◌, ◌<◌, MatchResult};
-ghost use Rattle.std.proofs.Common.{arith};
 ghost use Rattle.history.specs.Marks.{least};
 ghost use Rattle.bus.specs.Symbols.{rank as rank_of, symbols, is_bit, bit as bit_of, value as value_of, shifted, acknowledge};
 
 use crate::{NoSymbol, Symbol};
 use history::Mark;
+use std::cmp::Ordering;
 
 impl Symbol {
     // 0 for 0, 1 for P, 2 for S, 3 for 1: the order of the symbols.
@@ -92,7 +92,9 @@ impl TryFrom<u8> for Symbol {
 impl Mark for Symbol {
     ghost marks = { symbols };
 
-    ghost ranked = { λ a b. Prim.grind arith };
+    fn against(self, other: Symbol) -> Ordering {
+        self.cmp(&other)
+    }
 
     fn greatest() -> Symbol {
         Symbol::One

@@ -1,9 +1,10 @@
 // Bytes in their order as numbers, 255 the greatest.
 ghost use Rattle.std.specs.Prelude.{◌≡◌};
-ghost use Rattle.history.specs.Bytes.{bytes, byte_ranked};
+ghost use Rattle.history.specs.Bytes.{bytes};
 
 use super::Byte;
 use crate::Mark;
+use std::cmp::Ordering;
 
 impl From<u8> for Byte {
     ghost from_gives = { λ n b. b.value ≡ n };
@@ -25,7 +26,9 @@ impl From<Byte> for u8 {
 impl Mark for Byte {
     ghost marks = { bytes };
 
-    ghost ranked = { byte_ranked };
+    fn against(self, other: Byte) -> Ordering {
+        self.cmp(&other)
+    }
 
     fn greatest() -> Byte {
         Byte::from(255)
