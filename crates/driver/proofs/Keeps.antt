@@ -1,11 +1,10 @@
 -- A register master as it stands. Assumes nothing.
-use Rattle.std.proofs.Common.{◌≡◌, ◌≤◌, Bool, true, false, sym, ap, ◌∙◌, subst, arith}
+use Rattle.std.proofs.Common.{◌≡◌, ◌≤◌, Bool, true, false, sym, ap, ◌∙◌, subst}
 use Rattle.bus.specs.declared.Symbol.{Symbol}
 use Rattle.bus.specs.Symbols.{is_stop}
 use Rattle.bus.specs.declared.Turn.{Turn}
 use Rattle.bus.specs.Turns.{next}
 use Rattle.orders.specs.declared.order.Order as code
-use Rattle.orders.specs.Orders.{Order}
 use Rattle.orders.specs.Fills.{order_of}
 use Rattle.progress.specs.Plans.{read_total}
 use Rattle.masters.specs.Master as master
@@ -15,7 +14,7 @@ use Rattle.block.specs.Tasks.{offers, starts}
 use Rattle.block.specs.Heard.{heard}
 use Rattle.driver.specs.declared.master.Driver.{Driver}
 use Rattle.driving.specs.declared.Drive.{Drive}
-use Rattle.driving.specs.States.{Standing, Known, known_of, kept, Led}
+use Rattle.driving.specs.States.{Known, known_of, Led}
 use Rattle.driving.specs.Driving.{heard_known, heard_block, retried, loss_cleared}
 use Rattle.driving_laws.specs.Meaning.{standing_of, read_most}
 use Rattle.driver.specs.Driver.{master_of}
@@ -29,13 +28,6 @@ driver_offers d = offers_all (order_of d.drive.order) (order_lawful d.drive.orde
 
 driver_hears : (d : Driver) (x : Symbol) → Hears (order_of d.drive.order) (known_of d.drive.state) d.drive.block x
 driver_hears d x = hears_all (order_of d.drive.order) (order_lawful d.drive.order) (known_of d.drive.state) d.drive.block x d.sound d.room
-
--- what a state keeps says all of how the master stands
-kept_stands : (k : Known) → (kept k).standing ≡ k.standing
-kept_stands k = grind arith
-
-kept_heard : (ss : Order) (r : Known) (b : Block) (x : Symbol) (k : Known) (m : Block) → Heard ss r b x k m → Heard ss r b x (kept k) m
-kept_heard ss r b x k m h = grind arith
 
 -- how a master stands after a slot
 pub record After (d : Driver) (x : Symbol) (o : code.Order) (r : Known) (b : Block) : Type 0 where
@@ -55,7 +47,7 @@ after_is d x r b w = record {
 -- the five calls of a slot, one after the other
 pub slot_heard : (d : Driver) (x : Symbol) (tried : Bool) (m : Block) (u v w : Drive)
     → tried ≡ starts d.drive.block.task → m ≡ heard d.drive.block x
-    → Led (record { block = m; order = d.drive.order; state = d.drive.state }) u (heard_block (order_of d.drive.order) tried x (known_of d.drive.state).standing m) (kept (heard_known (order_of d.drive.order) tried x (known_of d.drive.state).standing m (known_of d.drive.state)))
+    → Led (record { block = m; order = d.drive.order; state = d.drive.state }) u (heard_block (order_of d.drive.order) tried x (known_of d.drive.state).standing m) (heard_known (order_of d.drive.order) tried x (known_of d.drive.state).standing m (known_of d.drive.state))
     → Led u v (loss_cleared x u.block) (known_of u.state)
     → Led v w (retried (known_of v.state).standing v.block) (known_of v.state)
     → After d x w.order (known_of w.state) w.block
@@ -64,11 +56,10 @@ slot_heard d x tried m u v w et em responds clears retries =
     let st = (known_of d.drive.state).standing in
     let k : Known = known_of d.drive.state in
     let a : Known = after_known ss k d.drive.block x in
-    let R : known_of v.state ≡ kept a = clears.known_is ∙ responds.known_is ∙ ap (λ (t : Bool). kept (heard_known ss t x st m k)) et ∙ ap (λ (b : Block). kept (heard_known ss (starts d.drive.block.task) x st b k)) em in
-    let S : (known_of v.state).standing ≡ a.standing = ap (λ (r : Known). r.standing) R ∙ kept_stands a in
+    let R : known_of v.state ≡ a = clears.known_is ∙ responds.known_is ∙ ap (λ (t : Bool). heard_known ss t x st m k) et ∙ ap (λ (b : Block). heard_known ss (starts d.drive.block.task) x st b k) em in
     let B : u.block ≡ heard_block ss (starts d.drive.block.task) x st (heard d.drive.block x) = responds.block_is ∙ ap (λ (t : Bool). heard_block ss t x st m) et ∙ ap (λ (b : Block). heard_block ss (starts d.drive.block.task) x st b) em in
-    let E : w.block ≡ after_block ss k d.drive.block x = retries.block_is ∙ ap (λ (b : Block). retried (known_of v.state).standing b) clears.block_is ∙ ap (λ (t : Standing). retried t (loss_cleared x u.block)) S ∙ ap (λ (b : Block). retried a.standing (loss_cleared x b)) B in
+    let E : w.block ≡ after_block ss k d.drive.block x = retries.block_is ∙ ap (λ (b : Block). retried (known_of v.state).standing b) clears.block_is ∙ ap (λ (r : Known). retried r.standing (loss_cleared x u.block)) R ∙ ap (λ (b : Block). retried a.standing (loss_cleared x b)) B in
     subst (λ (o : code.Order). After d x o (known_of w.state) w.block) (sym (retries.order_stands ∙ clears.order_stands ∙ responds.order_stands))
     (subst (λ (r : Known). After d x d.drive.order r w.block) (sym (retries.known_is ∙ R))
-    (subst (λ (b : Block). After d x d.drive.order (kept a) b) (sym E)
-    (after_is d x (kept a) (after_block ss k d.drive.block x) (kept_heard ss k d.drive.block x a (after_block ss k d.drive.block x) (driver_hears d x)))))
+    (subst (λ (b : Block). After d x d.drive.order a b) (sym E)
+    (after_is d x a (after_block ss k d.drive.block x) (driver_hears d x))))

@@ -5,7 +5,7 @@ use Rattle.bus.specs.declared.Symbol.{Symbol}
 use Rattle.bus.specs.declared.Symbol.TheVariants as symbol
 use Rattle.bus.specs.Symbols.{value}
 use Rattle.orders.specs.declared.order.Order as code
-use Rattle.orders.specs.Orders.{Segment, writing, reading, Order, reads, count, Each, LawfulSegment, Lawful}
+use Rattle.orders.specs.Orders.{Segment, writing, reading, Order, address_of, reads, count, Each, LawfulSegment, Lawful}
 use Rattle.orders.specs.Fills.{order_of}
 use Rattle.orders.proofs.Parts.{lawful_is}
 use Rattle.progress.specs.Positions.{here}
@@ -20,19 +20,26 @@ value_le symbol.Stop = omega arith
 value_le symbol.Start = omega arith
 value_le symbol.One = omega arith
 
--- a read has a byte at least
-some_byte : (s : Segment) → LawfulSegment s → reads s ≡ true → ltb 0 (count s) ≡ true
-some_byte (writing a bs) l e = absurd (clash e)
-some_byte (reading a n) l e = lt-ltb 0 n (omega (arith, l.2))
+-- an address fits seven bits, and a read has a byte at least
+pub record Fair (s : Segment) : Type 0 where
+  pub low : address_of s ≤ 119
+  pub some : reads s ≡ true → ltb 0 (count s) ≡ true
 
-each_some : (ss : Order) → Each LawfulSegment ss → (i : ℕ) → reads (here ss i) ≡ true → ltb 0 (count (here ss i)) ≡ true
-each_some [] l zero e = absurd (clash e)
-each_some [] l (suc i) e = absurd (clash e)
-each_some (s ∷ ss) l zero e = some_byte s l.0 e
-each_some (s ∷ ss) l (suc i) e = each_some ss l.1 i e
+fair : (s : Segment) → LawfulSegment s → Fair s
+fair (writing a bs) l = record { low = l.1; some = λ e. absurd (clash e) }
+fair (reading a n) l = record { low = l.1; some = λ e. lt-ltb 0 n (omega (arith, l.2)) }
+
+each_fair : (ss : Order) → Each LawfulSegment ss → (i : ℕ) → Fair (here ss i)
+each_fair [] l zero = record { low = omega arith; some = λ e. absurd (clash e) }
+each_fair [] l (suc i) = record { low = omega arith; some = λ e. absurd (clash e) }
+each_fair (s ∷ ss) l zero = fair s l.0
+each_fair (s ∷ ss) l (suc i) = each_fair ss l.1 i
+
+pub fair_at : (ss : Order) → Lawful ss → (i : ℕ) → Fair (here ss i)
+fair_at ss l i = each_fair ss l.each i
 
 pub some_byte_at : (ss : Order) → Lawful ss → (i : ℕ) → reads (here ss i) ≡ true → ltb 0 (count (here ss i)) ≡ true
-some_byte_at ss l i = each_some ss l.each i
+some_byte_at ss l i = (fair_at ss l i).some
 
 pub some_segment : (ss : Order) → Lawful ss → ltb 0 (length ss) ≡ true
 some_segment ss l = lt-ltb 0 (length ss) (omega (arith, l.some_segment))

@@ -13,7 +13,11 @@ use Rattle.block.specs.Slots.{same}
 use Rattle.block.specs.Access.{IICC0, reset_block, control_value, written, refuses_byte, byte_written, byte_moves}
 use Rattle.driving.specs.declared.access.Flag.{Flag}
 use Rattle.driving.specs.declared.access.Flag.TheVariants.{Msts0, Ald0, Ackd0}
-use Rattle.driving.specs.States.{Phase, Opening, Address, Write, Read, Stopping, Standing, Idle, Waiting, Contending, Answered, Known}
+use Rattle.driving.specs.declared.Phase.{Phase}
+use Rattle.driving.specs.declared.Phase.TheVariants.{Opening, Address, Write, Read, Stopping}
+use Rattle.driving.specs.declared.Standing.{Standing}
+use Rattle.driving.specs.declared.Standing.TheVariants.{Idle, Waiting, Contending, Answered}
+use Rattle.driving.specs.States.{Known}
 
 -- the address byte: seven bits, then the direction
 abbrev pub address_byte_of : Segment → ℕ

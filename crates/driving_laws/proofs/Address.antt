@@ -22,7 +22,10 @@ use Rattle.block.specs.Slots.{same, in_byte}
 use Rattle.block.specs.Flags.{loss, flag}
 use Rattle.block.specs.Heard.{moved_on}
 use Rattle.block.specs.Access.{byte_moves}
-use Rattle.driving.specs.States.{Phase, Address, Contending, Known}
+use Rattle.driving.specs.declared.Phase.{Phase}
+use Rattle.driving.specs.declared.Phase.TheVariants.{Address}
+use Rattle.driving.specs.declared.Standing.TheVariants.{Contending}
+use Rattle.driving.specs.States.{Known}
 use Rattle.driving.specs.Driving.{address_byte_of, ended, loss_cleared, retried, with_standing, failed, standing_on, block_on}
 use Rattle.driving_laws.specs.Tied.{tied, turned, unacked}
 use Rattle.driving_laws.specs.Meaning.{progress_at, address_stage}

@@ -16,6 +16,7 @@ use Rattle.block.specs.Flags.{loss}
 use Rattle.block.specs.Heard.{moved_on, bit_passed}
 use Rattle.driving.specs.Driving.{address_byte_of}
 use Rattle.driving_laws.specs.Tied.{patched}
+use Rattle.driving_laws.proofs.Lost.{task_mid, msts_mid, trc_mid}
 use native.Mathlib.Nat.{div-div-eq-div-mul, pow-succ'}
 
 pub same_as : (o y x : Symbol) → o ≡ y → same o x ≡ same y x
@@ -62,7 +63,10 @@ pub record Kept (b : Block) (k : Task) (r : Bool) : Type 0 where
 
 pub kept : (b : Block) (t : Turn) (k : Task) (a r : Bool) (x : Symbol) → is_bit x ≡ true → loss (patched b t k a true r) x ≡ false → is_ninth t ≡ false → after_write t ≡ false → after_read t ≡ false → bit_passed k ≡ k
     → Kept (moved_on (patched b t k a true r) x) k r
-kept b t k a r x e f g h i j = grind arith
+kept b t k a r symbol.Zero i l n w d p = record { task_kept = task_mid _ _ k l n p; msts_kept = msts_mid _ l; trc_kept = trc_mid _ (after_write t) (after_read t) r l w d }
+kept b t k a r symbol.One i l n w d p = record { task_kept = task_mid _ _ k l n p; msts_kept = msts_mid _ l; trc_kept = trc_mid _ (after_write t) (after_read t) r l w d }
+kept b t k a r symbol.Stop i l n w d p = absurd (clash i)
+kept b t k a r symbol.Start i l n w d p = absurd (clash i)
 
 -- a reader's ninth slot gets 0 while more is wanted
 pub more_is : (j n : ℕ) (c : Bool) → ltb (j + 1) n ≡ c → cond c symbol.Zero symbol.One ≡ script.more (n - (j + 1))

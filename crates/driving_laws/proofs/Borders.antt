@@ -17,7 +17,10 @@ use Rattle.block.specs.declared.Block.{Block}
 use Rattle.block.specs.declared.Task.TheVariants as task
 use Rattle.block.specs.Flags.{loss}
 use Rattle.block.specs.Heard.{moved_on}
-use Rattle.driving.specs.States.{Phase, Opening, Stopping, Contending, Answered, Known}
+use Rattle.driving.specs.declared.Phase.{Phase}
+use Rattle.driving.specs.declared.Phase.TheVariants.{Opening, Stopping}
+use Rattle.driving.specs.declared.Standing.TheVariants.{Contending, Answered}
+use Rattle.driving.specs.States.{Known}
 use Rattle.driving.specs.Driving.{loss_cleared, with_standing, ends}
 use Rattle.driving_laws.specs.Tied.{at_border, tied}
 use Rattle.driving_laws.specs.Meaning.{standing_of, progress_at}

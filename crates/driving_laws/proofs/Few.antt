@@ -11,7 +11,9 @@ use Rattle.scripts.specs.Scripts as script
 use Rattle.progress.specs.Plans.{read_total}
 use Rattle.progress.proofs.Room.{come_plan, come_next}
 use Rattle.masters.specs.Standings as masters
-use Rattle.driving.specs.States.{Standing, Idle, Waiting, Contending, Answered, Known}
+use Rattle.driving.specs.declared.Standing.{Standing}
+use Rattle.driving.specs.declared.Standing.TheVariants.{Idle, Waiting, Contending, Answered}
+use Rattle.driving.specs.States.{Known}
 use Rattle.driving_laws.specs.Meaning.{standing_at, progress_at, read_most}
 
 -- a contender reads no more in a slot than was to come

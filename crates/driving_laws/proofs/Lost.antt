@@ -16,8 +16,10 @@ use Rattle.block.specs.declared.Task.TheVariants as task
 use Rattle.block.specs.Slots.{same, after_write, after_read}
 use Rattle.block.specs.Tasks.{offers, waits, starts}
 use Rattle.block.specs.Flags.{loss, flag}
-use Rattle.block.specs.Heard.{moved_on}
-use Rattle.driving.specs.States.{Phase, Waiting, Contending, Known}
+use Rattle.block.specs.Heard.{moved_on, bit_passed}
+use Rattle.driving.specs.declared.Phase.{Phase}
+use Rattle.driving.specs.declared.Standing.TheVariants.{Waiting, Contending}
+use Rattle.driving.specs.States.{Known}
 use Rattle.driving.specs.Driving.{heard_block, heard_known, loss_cleared, retried, with_standing, lost, ends}
 use Rattle.driving_laws.specs.Tied.{patched, tied, phase_task}
 use Rattle.driving_laws.specs.Meaning.{standing_of}
@@ -67,6 +69,16 @@ lost_quiet b t k a r symbol.Start l =
       no_master = flag_lost _ false (loss P symbol.Start) true s l;
       no_sender = trc_start _ false false false (loss P symbol.Start) r s refl l;
     }
+
+-- inside a byte
+pub task_mid : (l n : Bool) (k : Task) → l ≡ false → n ≡ false → bit_passed k ≡ k → cond l task.Rest (cond n task.NinthWait (bit_passed k)) ≡ k
+task_mid l n k e f g = grind arith
+
+pub msts_mid : (l : Bool) → l ≡ false → flag false l true ≡ true
+msts_mid l e = grind arith
+
+pub trc_mid : (l w d r : Bool) → l ≡ false → w ≡ false → d ≡ false → flag w (d || l) r ≡ r
+trc_mid l w d r e f g = grind arith
 
 never_waits : (ss : Order) (p : Phase) (i j : ℕ) → waits (phase_task ss p i j) ≡ false
 never_waits ss p i j = grind arith

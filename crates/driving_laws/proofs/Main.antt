@@ -12,7 +12,10 @@ use Rattle.progress.specs.Positions.{here}
 use Rattle.masters.specs.Standings as masters
 use Rattle.block.specs.declared.Block.{Block}
 use Rattle.block.specs.Tasks.{offers}
-use Rattle.driving.specs.States.{Opening, Address, Write, Read, Stopping, Standing, Idle, Waiting, Contending, Answered, Known}
+use Rattle.driving.specs.declared.Phase.TheVariants.{Opening, Address, Write, Read, Stopping}
+use Rattle.driving.specs.declared.Standing.{Standing}
+use Rattle.driving.specs.declared.Standing.TheVariants.{Idle, Waiting, Contending, Answered}
+use Rattle.driving.specs.States.{Known}
 use Rattle.driving.specs.Driving.{with_standing}
 use Rattle.driving_laws.specs.Tied.{in_read, tied, turned, real, unacked}
 use Rattle.driving_laws.specs.Meaning.{standing_of, standing_at, read_most}

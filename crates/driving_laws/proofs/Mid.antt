@@ -12,7 +12,9 @@ use Rattle.block.specs.Slots.{same, in_byte}
 use Rattle.block.specs.Tasks.{has_byte, starts}
 use Rattle.block.specs.Heard.{moved_on}
 use Rattle.block.specs.Access.{byte_moves}
-use Rattle.driving.specs.States.{Phase, Contending, Known}
+use Rattle.driving.specs.declared.Phase.{Phase}
+use Rattle.driving.specs.declared.Standing.TheVariants.{Contending}
+use Rattle.driving.specs.States.{Known}
 use Rattle.driving.specs.Driving.{heard_block, heard_known, going_block, going_known, loss_cleared, retried, with_standing}
 use Rattle.driving_laws.specs.Tied.{tied, phase_task}
 use Rattle.driving_laws.specs.Agreement.{Heard, Hears}

@@ -14,13 +14,20 @@ use Rattle.block.specs.declared.Block.{Block}
 use Rattle.block.specs.declared.Control.{Control}
 use Rattle.block.specs.declared.Task.{Task}
 use Rattle.block.specs.declared.Task.TheVariants as task
+use Rattle.block.specs.Slots.{is_ninth}
 use Rattle.block.specs.Tasks.{waits}
 use Rattle.block.specs.Heard.{heard, moved_on}
-use Rattle.driving.specs.States.{Standing, Idle, Waiting, Answered, Known}
+use Rattle.driving.specs.declared.Standing.{Standing}
+use Rattle.driving.specs.declared.Standing.TheVariants.{Idle, Waiting, Answered}
+use Rattle.driving.specs.States.{Known}
 use Rattle.driving.specs.Driving.{loss_cleared, retried, renewed, begun, with_standing}
 use Rattle.driving_laws.specs.Tied.{patched, tied, task_of, acks_of, is_contending, sends_of}
 use Rattle.driving_laws.specs.Meaning.{standing_of}
 use Rattle.driving_laws.specs.Agreement.{Heard, Hears}
+
+pub same_arms : {A : Type 0} (c : Bool) (a : A) → cond c a a ≡ a
+same_arms true a = refl
+same_arms false a = refl
 
 abbrev pub lit : Bool → Control
 lit a = record { iice0 = true; spie0 = false; wtim0 = true; acke0 = a }
@@ -69,7 +76,10 @@ pub record Quiet (b : Block) : Type 0 where
   pub no_sender : b.status.trc0 ≡ false
 
 pub quiet_heard : (b : Block) (t : Turn) (a : Bool) (x : Symbol) → Quiet (heard (patched b t task.Rest a false false) x)
-quiet_heard b t a x = grind arith
+quiet_heard b t a symbol.Zero = record { lit_up = refl; rests = same_arms (is_ninth t) task.Rest; no_master = refl; no_sender = refl }
+quiet_heard b t a symbol.Stop = record { lit_up = refl; rests = refl; no_master = refl; no_sender = refl }
+quiet_heard b t a symbol.Start = record { lit_up = refl; rests = refl; no_master = refl; no_sender = refl }
+quiet_heard b t a symbol.One = record { lit_up = refl; rests = same_arms (is_ninth t) task.Rest; no_master = refl; no_sender = refl }
 
 pub quiet_idle : (ss : Order) (b : Block) → Quiet b → b ≡ tied ss Idle b.turn b
 quiet_idle ss b q = tie ss Idle b q.lit_up q.rests q.no_master q.no_sender

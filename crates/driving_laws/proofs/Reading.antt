@@ -23,7 +23,10 @@ use Rattle.block.specs.Slots.{same}
 use Rattle.block.specs.Flags.{loss}
 use Rattle.block.specs.Heard.{moved_on}
 use Rattle.block.specs.Access.{byte_moves}
-use Rattle.driving.specs.States.{Phase, Read, Contending, Known}
+use Rattle.driving.specs.declared.Phase.{Phase}
+use Rattle.driving.specs.declared.Phase.TheVariants.{Read}
+use Rattle.driving.specs.declared.Standing.TheVariants.{Contending}
+use Rattle.driving.specs.States.{Known}
 use Rattle.driving.specs.Driving.{with_standing, with_byte, pushed}
 use Rattle.driving_laws.specs.Tied.{in_read, patched, tied, real}
 use Rattle.driving_laws.specs.Meaning.{stage_at, progress_at}

@@ -17,7 +17,11 @@ use Rattle.masters.specs.Standings.{hears}
 use Rattle.block.specs.declared.Block.{Block}
 use Rattle.block.specs.declared.Task.TheVariants as task
 use Rattle.block.specs.Slots.{same}
-use Rattle.driving.specs.States.{Phase, Opening, Write, Read, Stopping, Standing, Contending, Known}
+use Rattle.driving.specs.declared.Phase.{Phase}
+use Rattle.driving.specs.declared.Phase.TheVariants.{Opening, Write, Read, Stopping}
+use Rattle.driving.specs.declared.Standing.{Standing}
+use Rattle.driving.specs.declared.Standing.TheVariants.{Contending}
+use Rattle.driving.specs.States.{Known}
 use Rattle.driving.specs.Driving.{standing_past, block_past, ended, received, sent, loss_cleared, retried, begun, with_standing, standing_on, block_on}
 use Rattle.driving_laws.specs.Tied.{at_border, in_read, patched, tied, turned, real, unacked}
 use Rattle.driving_laws.specs.Meaning.{standing_of, stage_at, notes_at}

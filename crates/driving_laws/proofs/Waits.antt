@@ -15,7 +15,8 @@ use Rattle.masters.specs.Standings.{hears}
 use Rattle.block.specs.declared.Block.{Block}
 use Rattle.block.specs.declared.Task.TheVariants as task
 use Rattle.block.specs.Heard.{heard}
-use Rattle.driving.specs.States.{Waiting, Known}
+use Rattle.driving.specs.declared.Standing.TheVariants.{Waiting}
+use Rattle.driving.specs.States.{Known}
 use Rattle.driving.specs.Driving.{loss_cleared, retried, with_standing, lost}
 use Rattle.driving_laws.specs.Tied.{patched, tied}
 use Rattle.driving_laws.specs.Meaning.{standing_of}

@@ -20,7 +20,10 @@ use Rattle.block.specs.Slots.{same, is_ninth, in_byte}
 use Rattle.block.specs.Flags.{loss}
 use Rattle.block.specs.Heard.{moved_on}
 use Rattle.block.specs.Access.{byte_moves}
-use Rattle.driving.specs.States.{Phase, Write, Contending, Known}
+use Rattle.driving.specs.declared.Phase.{Phase}
+use Rattle.driving.specs.declared.Phase.TheVariants.{Write}
+use Rattle.driving.specs.declared.Standing.TheVariants.{Contending}
+use Rattle.driving.specs.States.{Known}
 use Rattle.driving.specs.Driving.{ended, loss_cleared, retried, with_standing, failed, standing_on, block_on}
 use Rattle.driving_laws.specs.Tied.{in_write, tied, turned, real, unacked}
 use Rattle.driving_laws.specs.Meaning.{progress_at, write_stage}

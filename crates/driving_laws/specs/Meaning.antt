@@ -14,7 +14,11 @@ use Rattle.progress.specs.declared.Stage.TheVariants as stage
 use Rattle.progress.specs.Plans.{todo_at, to_come}
 use Rattle.masters.specs.Standings as masters
 use Rattle.block.specs.declared.Block.{Block}
-use Rattle.driving.specs.States.{Phase, Opening, Address, Write, Read, Stopping, Standing, Idle, Waiting, Contending, Answered, Known}
+use Rattle.driving.specs.declared.Phase.{Phase}
+use Rattle.driving.specs.declared.Phase.TheVariants.{Opening, Address, Write, Read, Stopping}
+use Rattle.driving.specs.declared.Standing.{Standing}
+use Rattle.driving.specs.declared.Standing.TheVariants.{Idle, Waiting, Contending, Answered}
+use Rattle.driving.specs.States.{Known}
 
 abbrev pub address_stage : Turn → Stage
 address_stage turn.Free = stage.Opening

@@ -11,7 +11,8 @@ use Rattle.block.specs.Tasks.{starts}
 use Rattle.block.specs.Heard.{heard}
 use Rattle.block.specs.Access.{status_value}
 use Rattle.block_laws.specs.Rows.{status}
-use Rattle.driving.specs.States.{Waiting, Known}
+use Rattle.driving.specs.declared.Standing.TheVariants.{Waiting}
+use Rattle.driving.specs.States.{Known}
 use Rattle.driving.specs.Driving.{heard_block, heard_known, loss_cleared, retried, begun}
 use Rattle.driving.specs.Driving.{assembled}
 

@@ -14,7 +14,10 @@ use Rattle.block.specs.declared.Block.{Block}
 use Rattle.block.specs.declared.Task.{Task}
 use Rattle.block.specs.declared.Task.TheVariants as task
 use Rattle.block.specs.Slots.{same, in_byte}
-use Rattle.driving.specs.States.{Phase, Opening, Address, Write, Read, Stopping, Standing, Idle, Waiting, Contending, Answered}
+use Rattle.driving.specs.declared.Phase.{Phase}
+use Rattle.driving.specs.declared.Phase.TheVariants.{Opening, Address, Write, Read, Stopping}
+use Rattle.driving.specs.declared.Standing.{Standing}
+use Rattle.driving.specs.declared.Standing.TheVariants.{Idle, Waiting, Contending, Answered}
 use Rattle.driving.specs.Driving.{address_byte_of}
 
 -- a block with IICE0 = 1, its turn, task, ACKE0, MSTS0 and TRC0 as given, and else as it is

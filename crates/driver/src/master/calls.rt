@@ -3,15 +3,16 @@ ghost use Rattle.std.specs.Prelude.{◌≡◌, false};
 ghost use Rattle.bus.specs.declared.Turn.TheVariants.{Free};
 ghost use Rattle.masters.specs.Standings.{idle as idle_standing};
 ghost use Rattle.masters.specs.Master as master;
+ghost use Rattle.block.specs.Tasks.{offers};
 ghost use Rattle.block.specs.Access.{IICSE0 as status_register, read_value};
 ghost use Rattle.driving.specs.Driving.{assembled as assembled_block};
 ghost use Rattle.driver.specs.Driver.{master_of};
 
 use super::Driver;
 use bus::Symbol;
-use driving::{Drive, State, assembled, begin, is_starting, release, status};
+use driving::{Drive, Standing, State, assembled, begin, is_starting, release, status};
 use masters::Master;
-use orders::{Answer, Order};
+use orders::{Answer, Bytes, Order, Outcome};
 use progress::Finished;
 use refusals::Refusal;
 
@@ -25,9 +26,20 @@ impl Driver {
             drive: Drive {
                 block: assembled(),
                 order: Order::new(),
-                state: State::Idle,
+                state: State {
+                    standing: Standing::Idle,
+                    losses: 0,
+                    outcome: Outcome::Done,
+                    bytes: Bytes::new(),
+                },
             },
         }
+    }
+
+    fn block_offer(&self) -> Symbol
+        ensures { result ≡ offers self.now.drive.block }
+    {
+        self.drive.block.offer()
     }
 
     // What IICSE0 reads as.
@@ -42,7 +54,7 @@ impl Master for Driver {
     ghost master = { master_of };
 
     fn offer(&self) -> Symbol {
-        self.drive.block.offer()
+        self.block_offer()
     }
 
     // A P also leaves ALD0 = 0.
@@ -67,46 +79,47 @@ impl Master for Driver {
 
     fn waits(&self) -> bool {
         matches!(
-            self.drive.state,
-            State::Waiting { .. } | State::Contending(_)
+            self.drive.state.standing,
+            Standing::Waiting | Standing::Contending { .. }
         )
     }
 
     fn place(&mut self, order: Order) -> Result<(), Refusal> {
-        let State::Idle = self.drive.state else {
+        let Standing::Idle = self.drive.state.standing else {
             return Err(Refusal::NotIdle);
         };
         self.drive.order = order;
-        self.drive.state = State::Waiting { losses: 0 };
+        self.drive.state.losses = 0;
+        self.drive.state.standing = Standing::Waiting;
         begin(&mut self.drive.block);
         Ok(())
     }
 
     // Where an order waits on a free bus, STT0 is set.
     fn withdraw(&mut self) -> Result<(), Refusal> {
-        match self.drive.state {
-            State::Idle | State::Answered { .. } => Err(Refusal::NotWaiting),
-            State::Waiting { .. } if is_starting(&self.drive.block) => {
-                self.drive.state = State::Idle;
+        match self.drive.state.standing {
+            Standing::Idle | Standing::Answered => Err(Refusal::NotWaiting),
+            Standing::Waiting if is_starting(&self.drive.block) => {
+                self.drive.state.standing = Standing::Idle;
                 release(&mut self.drive.block);
                 Ok(())
             }
-            State::Contending(_) | State::Waiting { .. } => Err(Refusal::BusNotFree),
+            Standing::Contending { .. } | Standing::Waiting => Err(Refusal::BusNotFree),
         }
     }
 
     fn collect(&mut self, buffer: &mut [u8]) -> Result<Answer, Refusal> {
-        let State::Answered {
-            losses,
-            outcome,
-            bytes,
-        } = self.drive.state
-        else {
+        let Standing::Answered = self.drive.state.standing else {
             return Err(Refusal::NotAnswered);
         };
-        let finished = Finished::new(self.drive.order, outcome, losses, bytes);
+        let finished = Finished::new(
+            self.drive.order,
+            self.drive.state.outcome,
+            self.drive.state.losses,
+            self.drive.state.bytes,
+        );
         let answer = finished.collect(buffer)?;
-        self.drive.state = State::Idle;
+        self.drive.state.standing = Standing::Idle;
         Ok(answer)
     }
 }
