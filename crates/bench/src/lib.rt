@@ -33,6 +33,15 @@ impl<M: Masters, S: Slaves> Bench<M, S> {
         ensures { All Well (S.Slaves.bank slaves.now) }
     {}
 
+    // What each call does stands in a function of its own, which the prover closes by itself; the call adds the law.
+    fn joined(mut masters: M, mut slaves: S) -> Self
+        ensures { model M.Masters S.Slaves result ≡ assembled (M.Masters.bank masters) (S.Slaves.bank slaves) }
+    {
+        masters.free();
+        slaves.free();
+        Bench { masters, slaves }
+    }
+
     // Moves one slot: all hear what it carries.
     fn slot(&mut self) -> Symbol
         ensures symbol { result ≡ carried (model M.Masters S.Slaves self.old) }
@@ -42,6 +51,52 @@ impl<M: Masters, S: Slaves> Bench<M, S> {
         self.masters.hear(symbol);
         self.slaves.hear(symbol);
         symbol
+    }
+
+    fn slot_rank(&mut self) -> u8
+        ensures rank { result ≡ rank_of (carried (model M.Masters S.Slaves self.old)) }
+        ensures after { model M.Masters S.Slaves self.new ≡ moved (model M.Masters S.Slaves self.old) }
+    {
+        self.slot().rank()
+    }
+
+    fn put(&mut self, number: usize, order: Order) -> Result<(), Refusal>
+        ensures answer { result ≡ m.place_answer number (model M.Masters S.Slaves self.old).masters }
+        ensures after { model M.Masters S.Slaves self.new ≡ does (Place number order) (model M.Masters S.Slaves self.old) }
+    {
+        self.masters.place(number, order)
+    }
+
+    fn take_back(&mut self, number: usize) -> Result<(), Refusal>
+        ensures answer { result ≡ m.withdraw_answer number (model M.Masters S.Slaves self.old).masters }
+        ensures after { model M.Masters S.Slaves self.new ≡ does (Withdraw number) (model M.Masters S.Slaves self.old) }
+    {
+        self.masters.withdraw(number)
+    }
+
+    fn set(&mut self, number: usize, place: usize, byte: u8) -> Result<(), Refusal>
+        ensures answer { result ≡ s.told number place (model M.Masters S.Slaves self.old).slaves }
+        ensures after { model M.Masters S.Slaves self.new ≡ does (Tell number place byte) (model M.Masters S.Slaves self.old) }
+    {
+        self.slaves.tell(number, place, byte)
+    }
+
+    fn hand_over(&mut self, number: usize, buffer: &mut [u8]) -> Result<Answer, Refusal>
+        ensures answer { result ≡ m.collect_answer number (length buffer.old) (model M.Masters S.Slaves self.old).masters }
+        ensures bytes { buffer.new ≡ m.collect_into number buffer.old (model M.Masters S.Slaves self.old).masters }
+        ensures after { model M.Masters S.Slaves self.new ≡ does (Collect number (length buffer.old)) (model M.Masters S.Slaves self.old) }
+    {
+        self.masters.collect(number, buffer)
+    }
+
+    // Moves one slot and marks its rank.
+    fn mark_slot(&mut self, book: &mut Book<u8>)
+        requires { book.old.used + 1 ≤ length book.old.places.now }
+        ensures after { model M.Masters S.Slaves self.new ≡ moved (model M.Masters S.Slaves self.old) }
+        ensures grows { Grows book.old book.new (rank_of (carried (model M.Masters S.Slaves self.old)) ∷ []) }
+    {
+        let slot = self.slot_rank();
+        let _ = book.mark(slot);
     }
 
     // Moves slots until there are `n`, or nobody waits, and marks their ranks; a book with room for them.
@@ -55,21 +110,33 @@ impl<M: Masters, S: Slaves> Bench<M, S> {
             if !self.masters.waits() {
                 return k;
             }
-            let _ = book.mark(self.slot().rank());
+            self.mark_slot(book);
         }
         n
     }
 
+    fn run_within(&mut self, n: usize, book: &mut Book<u8>) -> Result<usize, Refusal>
+        ensures answer { result ≡ run_answer n (left book.old) (model M.Masters S.Slaves self.old) }
+        ensures after { model M.Masters S.Slaves self.new ≡ does (Run n (left book.old)) (model M.Masters S.Slaves self.old) }
+        ensures grows { Grows book.old book.new (ranks (moves (Run n (left book.old)) (model M.Masters S.Slaves self.old))) }
+    {
+        if n > 999 {
+            return Err(Refusal::LongRun);
+        }
+        if book.left() < n {
+            return Err(Refusal::FullBook);
+        }
+        Ok(self.run_slots(n, book))
+    }
+
     // Puts masters and slaves on one free bus. The law of contests holds of every list of calls from here.
-    pub fn assemble(mut masters: M, mut slaves: S) -> Self
+    pub fn assemble(masters: M, slaves: S) -> Self
         ensures made { model M.Masters S.Slaves result ≡ assembled (M.Masters.bank masters) (S.Slaves.bank slaves) }
         ensures law { Always (model M.Masters S.Slaves result) }
     {
         law::holds();
         Self::keeps_to_the_turns(&slaves);
-        masters.free();
-        slaves.free();
-        Bench { masters, slaves }
+        Bench::joined(masters, slaves)
     }
 
     // Moves one slot, and returns its rank.
@@ -79,7 +146,7 @@ impl<M: Masters, S: Slaves> Bench<M, S> {
         ensures law { Continues (model M.Masters S.Slaves self.old) Step (result ∷ []) (model M.Masters S.Slaves self.new) }
     {
         law::holds();
-        self.slot().rank()
+        self.slot_rank()
     }
 
     // Moves slots until there are `n`, or the bus is free and nobody waits; marks their ranks, and says how many.
@@ -90,13 +157,7 @@ impl<M: Masters, S: Slaves> Bench<M, S> {
         ensures law { Continues (model M.Masters S.Slaves self.old) (Run n (left book.old)) (grown (marked book.old) (marked book.new)) (model M.Masters S.Slaves self.new) }
     {
         law::holds();
-        if n > 999 {
-            return Err(Refusal::LongRun);
-        }
-        if book.left() < n {
-            return Err(Refusal::FullBook);
-        }
-        Ok(self.run_slots(n, book))
+        self.run_within(n, book)
     }
 
     // Gives an order to the master with this number, if it is idle.
@@ -106,7 +167,7 @@ impl<M: Masters, S: Slaves> Bench<M, S> {
         ensures law { Continues (model M.Masters S.Slaves self.old) (Place number order) [] (model M.Masters S.Slaves self.new) }
     {
         law::holds();
-        self.masters.place(number, order)
+        self.put(number, order)
     }
 
     // Makes the master with this number idle, if it waits and the bus is free.
@@ -116,7 +177,7 @@ impl<M: Masters, S: Slaves> Bench<M, S> {
         ensures law { Continues (model M.Masters S.Slaves self.old) (Withdraw number) [] (model M.Masters S.Slaves self.new) }
     {
         law::holds();
-        self.masters.withdraw(number)
+        self.take_back(number)
     }
 
     // Sets one byte of the slave with this number, if the bus is free.
@@ -126,7 +187,7 @@ impl<M: Masters, S: Slaves> Bench<M, S> {
         ensures law { Continues (model M.Masters S.Slaves self.old) (Tell number place byte) [] (model M.Masters S.Slaves self.new) }
     {
         law::holds();
-        self.slaves.tell(number, place, byte)
+        self.set(number, place, byte)
     }
 
     // Hands over the answer of the master with this number, once; the bytes read go to the front of the buffer.
@@ -137,7 +198,7 @@ impl<M: Masters, S: Slaves> Bench<M, S> {
         ensures law { Continues (model M.Masters S.Slaves self.old) (Collect number (length buffer.old)) [] (model M.Masters S.Slaves self.new) }
     {
         law::holds();
-        self.masters.collect(number, buffer)
+        self.hand_over(number, buffer)
     }
 
     // Takes the bench apart.

@@ -16,7 +16,7 @@ use Rattle.orders.specs.declared.Outcome.{Outcome}
 use Rattle.scripts.specs.Scripts.{begin, offer, after, script, answer}
 use Rattle.masters.specs.Standings.{Request, Contender, Standing, idle, waiting, contending, answered, starting, contender_in, lost, becomes, placed, withdrawn, collected}
 use Rattle.bus.proofs.Slots.{free_turn}
-use Rattle.law.proofs.One.{Bench, hears, carried, moved, Call, place, withdraw, tell, step, run, collect, alter, with_masters, with_rule, at_rest, ran, after_call, Slot, slot, run_slots, call_slots, slots}
+use Rattle.law.proofs.One.{Bench, hears, carried, moved, Call, place, withdraw, tell, step, run, collect, alter, with_masters, with_rule, at_rest, ran, after_call, Slot, slot, run_slots, call_slots, slots, assembled}
 use Rattle.scripts.specs.Alone.{AloneHistory, answer_of}
 use Rattle.law.proofs.OneLaw.{Closes, ended, Finished, FairContest}
 use Rattle.history.proofs.General.{fair}
@@ -461,6 +461,19 @@ at_first : (n i : ℕ) → get_or (replicate n idle) i idle ≡ idle
 at_first zero i = refl
 at_first (suc n) zero = refl
 at_first (suc n) (suc i) = at_first n i
+
+pub sound_assembled : (n : ℕ) (r : Rule Symbol) → Polite bus Free r → Sound (assembled n r)
+sound_assembled n r p = record {
+  polite = p;
+  lawful = λ i. rw (at_first n i) tt;
+  fits = λ i k e. absurd (never i k e);
+  held = λ u. absurd (clash u);
+  calm = λ u i k e. never i k e;
+  short = λ i k e. absurd (never i k e);
+}
+  where
+    never : (i : ℕ) (k : Contender) → get_or (replicate n idle) i idle ≡ contending k → ⊥
+    never i k e = let f = at_first n i in let z : ◌≡◌ {A = ℕ} 0 1 = cc in omega arith
 
 not_start : (x : Symbol) → x ≡ One → x ≡ Start → ⊥
 not_start x p q = let z : ◌≡◌ {A = ℕ} 0 1 = cc in omega arith

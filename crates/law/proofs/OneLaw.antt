@@ -1,12 +1,15 @@
 -- The law of contests, over lists of calls. Assumes nothing.
 use Rattle.std.proofs.Common.{◌≡◌, ℕ, ◌+◌, ◌*◌, ◌≤◌, min, List, [], ◌∷◌, ◌++◌, map, length, get_or}
+use mathlib.Core.Option.{Option}
 use Rattle.history.specs.Marks.{Less}
-use Rattle.history.specs.Contest.{Rule, Polite, Then}
+use Rattle.history.specs.Contest.{Rule, Polite, Then, Contest, FairStart, Fair}
 use Rattle.bus.specs.declared.Symbol.{Symbol}
 use Rattle.bus.specs.declared.Symbol.TheVariants.{Start}
+use Rattle.bus.specs.declared.Turn.{Turn}
 use Rattle.bus.specs.declared.Turn.TheVariants.{Free}
 use Rattle.bus.specs.Symbols.{symbols, is_stop}
 use Rattle.bus.specs.Turns.{bus}
+use Rattle.orders.specs.Orders.{Answer}
 use Rattle.scripts.specs.Alone.{AloneHistory, answer_of}
 use Rattle.masters.specs.Standings.{Request, Standing, idle, waiting, answered}
 use Rattle.law.proofs.One.{Bench, Call, place, withdraw, tell, step, run, collect, Slot, slots, final, assembled, orders_waiting}
@@ -64,6 +67,11 @@ WithoutPlace (step ∷ cs) = WithoutPlace cs
 WithoutPlace (run n ∷ cs) = WithoutPlace cs
 WithoutPlace (collect i ∷ cs) = WithoutPlace cs
 
+-- any family of contenders, given by scripts
+abbrev pub AnyContestIsFair : Type 0
+AnyContestIsFair =
+    (t : Turn) (cs : ℕ → Option (Rule Symbol)) (r : Rule Symbol) (h : List Symbol) → FairStart bus t cs r → Contest bus t cs r h → Fair bus t cs r h
+
 -- the law of contests
 abbrev pub ContestsAreFair : Type 0
 ContestsAreFair =
@@ -81,3 +89,8 @@ WithoutCollect i (tell r p ∷ cs) = WithoutCollect i cs
 WithoutCollect i (step ∷ cs) = WithoutCollect i cs
 WithoutCollect i (run n ∷ cs) = WithoutCollect i cs
 WithoutCollect i (collect j ∷ cs) = (j ≡ i → ⊥) × WithoutCollect i cs
+
+abbrev pub AnswersKeep : Type 0
+AnswersKeep =
+    (b : Bench) (i : ℕ) (a : Answer) → get_or b.masters i idle ≡ answered a → (cs : List Call) → WithoutCollect i cs
+    → get_or (final b cs).masters i idle ≡ answered a

@@ -1,6 +1,7 @@
 -- A run, slot by slot. Assumes nothing.
 use Rattle.std.proofs.Common.{◌≡◌, ℕ, zero, suc, ◌+◌, ◌-◌, ◌<◌, ◌≤◌, Bool, true, false, cond, List, [], ◌∷◌, ◌++◌, length, drop, sym, refl, ap, ◌∙◌, subst₂, append_assoc, append-nil, arith}
 use Rattle.bus.specs.Symbols.{rank}
+use Rattle.std.proofs.lemmas.List.{drop-drop}
 use Rattle.law.specs.Model.{Model, carried, moved, resting, Slot, slot, run_slots, ran}
 use Rattle.law.specs.Calls.{ranks, grown}
 
@@ -11,6 +12,12 @@ Ahead n k w₀ w before marks =
     × (k + length (run_slots (n - k) w) ≡ length (run_slots n w₀))
     × (ran (n - k) w ≡ ran n w₀)
     × (marks ++ ranks (run_slots (n - k) w) ≡ before ++ ranks (run_slots n w₀))
+
+pub ahead_start : (n : ℕ) (w : Model) (before : List ℕ) → Ahead n 0 w w before before
+ahead_start n w before =
+    let e : n - 0 ≡ n = omega arith in
+    let f = ap (λ (j : ℕ). length (run_slots j w)) e in
+    (omega arith, omega arith, ap (λ (j : ℕ). ran j w) e, ap (λ (j : ℕ). before ++ ranks (run_slots j w)) e)
 
 slots_more : (n k : ℕ) (w : Model) → k < n → resting w ≡ false → run_slots (n - k) w ≡ slot w ∷ run_slots (n - (k + 1)) (moved w)
 slots_more n k w l e =
@@ -56,6 +63,16 @@ over n k w₀ w before marks s r h =
 
 pub ahead_rest : (n k : ℕ) (w₀ w : Model) (before marks : List ℕ) → resting w ≡ true → Ahead n k w₀ w before marks → Over n k w₀ w before marks
 ahead_rest n k w₀ w before marks e h = over n k w₀ w before marks (slots_rest (n - k) w e) (ran_rest (n - k) w e) h
+
+pub ahead_end : (n k : ℕ) (w₀ w : Model) (before marks : List ℕ) → n ≤ k → Ahead n k w₀ w before marks → Over n k w₀ w before marks
+ahead_end n k w₀ w before marks l h =
+    let e : n - k ≡ 0 = omega arith in
+    over n k w₀ w before marks (ap (λ (i : ℕ). run_slots i w) e) (ap (λ (i : ℕ). ran i w) e) h
+
+-- what a book leaves alone
+pub blank_on : (xs ys zs : List ℕ) (u v : ℕ) → v ≡ u + 1 → drop v xs ≡ drop v ys → drop u ys ≡ drop u zs → drop v xs ≡ drop v zs
+blank_on xs ys zs u v e h k =
+    h ∙ ap (λ (i : ℕ). drop i ys) e ∙ sym (drop-drop 1 u ys) ∙ ap (drop 1) k ∙ drop-drop 1 u zs ∙ ap (λ (i : ℕ). drop i zs) (sym e)
 
 drop_front : (xs ys : List ℕ) → drop (length xs) (xs ++ ys) ≡ ys
 drop_front [] ys = refl
