@@ -29,8 +29,8 @@ fn number(word: &[u8]) -> Option<u16>
     }
 }
 
-// The numbers of a line, if it is a line of at most 47 numbers.
-pub fn read_numbers(line: &[u8]) -> Option<ArrayVec<u16, 47>>
+// The numbers of a line, word by word.
+fn split_numbers(line: &[u8]) -> Option<ArrayVec<u16, 47>>
     ensures { MatchOption result (Wrong line.now) (λ ns. Is line.now (items_of ns)) }
 {
     let mut numbers = ArrayVec::new(0);
@@ -38,6 +38,13 @@ pub fn read_numbers(line: &[u8]) -> Option<ArrayVec<u16, 47>>
         numbers.push(number(word)?).ok()?;
     }
     Some(numbers)
+}
+
+// The numbers of a line, if it is a line of at most 47 numbers.
+pub fn read_numbers(line: &[u8]) -> Option<ArrayVec<u16, 47>>
+    ensures { MatchOption result (Wrong line.now) (λ ns. Is line.now (items_of ns)) }
+{
+    split_numbers(line)
 }
 
 // A line is one list of numbers, if any.

@@ -23,10 +23,11 @@ impl Kept {
     }
 
     // One byte more of the line.
+    #[tactic(auto, using(crate::proofs::Keeping::one_more))]
     pub fn keep(&mut self, byte: u8)
         ensures { bytes_of self.new ≡ take 188 (bytes_of self.old ++ (byte ∷ [])) }
     {
-        self.list.extend_from_slice(&[byte]);
+        let _ = self.list.push(byte);
     }
 
     pub fn line(&self) -> &[u8]

@@ -4,7 +4,7 @@ use Rattle.std.proofs.lemmas.Iterator.Splits.{YieldsList-from_slice_split}
 use Rattle.std.proofs.lemmas.Iterator.Consumers.{YieldsList-at, YieldsList-turn, YieldsList-end}
 use Rattle.array_vec.specs.Items.{items_of}
 use Rattle.numerals.proofs.Words.{Spells, spells_push, line_of, wrong_word, too_many}
-use Rattle.numerals.proofs.reading.read_numbers.Goals as goal
+use Rattle.numerals.proofs.reading.split_numbers.Goals as goal
 
 pub returns-in_err-number : goal.returns-in_err-number
 returns-in_err-number c =
