@@ -65,8 +65,3 @@ collected w n k buffer buffer' r q l ek er eq eb =
     let f : collect_into n buffer w.masters ≡ buffer' = ap (λ (i : ℕ). collect_into i buffer w.masters) (sym ek) ∙ sym eb in
     let had = handed_by buffer l n w.masters in
     line_of w n buffer buffer' q e (subst (Handed buffer (standing n w) q) f (subst (λ (v : Result code.Answer Refusal). Handed buffer (standing n w) v (collect_into n buffer w.masters)) (sym e) had))
-
--- the numbers of an answer, as they were had
-pub numbers_as : (kind n losses : ℕ) (buffer read : List ℕ) (o s b k o' s' b' k' : ℕ) → kind ≡ 5 → o ≡ o' → s ≡ s' → b ≡ b' → k ≡ k' → read ≡ take k' buffer
-    → kind ∷ (n ∷ (0 ∷ (o ∷ (s ∷ (b ∷ (losses ∷ (k ∷ read))))))) ≡ 5 ∷ (n ∷ (0 ∷ (o' ∷ (s' ∷ (b' ∷ (losses ∷ (k' ∷ take k' buffer)))))))
-numbers_as kind n losses buffer read o s b k o' s' b' k' e eo es eb ek er = cc

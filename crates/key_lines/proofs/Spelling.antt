@@ -138,12 +138,12 @@ not_bytes n count rest r ss left er l e f =
     (not_place n count rest (λ ts cs k q p. clash (sym f ∙ ap (every is_byte) (same_bytes ss ts left cs (l ∙ sym k) (sym e ∙ q)) ∙ p)))
 
 -- segments read and then bytes
-pub place_read : (n count : ℕ) (rest : List ℕ) (r : Result Order Refusal) (ss segments : List RawSegment) (left bytes : List ℕ)
-    → length ss ≡ count → rest ≡ segment_numbers ss ++ left → every is_byte left ≡ true → segments ≡ ss → bytes ≡ left → Filled r segments bytes
+pub place_read : (n count : ℕ) (rest : List ℕ) (r : Result Order Refusal) (ss : List RawSegment) (left bytes : List ℕ)
+    → length ss ≡ count → rest ≡ segment_numbers ss ++ left → every is_byte left ≡ true → bytes ≡ left → Filled r ss bytes
     → Reads (1 ∷ (n ∷ (count ∷ rest))) (Some (Place n r))
-place_read n count rest r ss segments left bytes l e p es eb f = (
+place_read n count rest r ss left bytes l e p eb f = (
   place n ss left,
   ap (λ (q : List ℕ). 1 ∷ (n ∷ (count ∷ q))) e ∙ ap (λ (k : ℕ). 1 ∷ (n ∷ (k ∷ (segment_numbers ss ++ left)))) (sym l),
   p,
-  (ss, left, refl, subst (λ (q : List ℕ). Filled r ss q) eb (subst (λ (q : List RawSegment). Filled r q bytes) es f)),
+  (ss, left, refl, subst (λ (q : List ℕ). Filled r ss q) eb f),
 )

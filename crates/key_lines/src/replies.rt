@@ -35,6 +35,21 @@ pub(crate) fn wrong_line(heap: Global) -> Result<String, AllocError>
     text(heap, 0, &[0, u16::from(Refusal::BadLine.number())], &[])
 }
 
+// The numbers of a collect that is done, between its kind and the bytes read.
+fn collected_numbers(number: u16, answer: Answer) -> [u16; 7]
+    ensures { result ≡ number ∷ (0 ∷ (outcome_number answer.outcome ∷ (segment_at_fault answer.outcome ∷ (byte_at_fault answer.outcome ∷ (answer.losses ∷ (answer.count ∷ [])))))) }
+{
+    [
+        number,
+        0,
+        u16::from(answer.outcome.number()),
+        u16::from(answer.outcome.segment()),
+        u16::from(answer.outcome.byte()),
+        answer.losses,
+        u16::from(answer.count),
+    ]
+}
+
 // The line of a collect that is done; the bytes read are the front of the buffer.
 pub(crate) fn answer_reply(
     heap: Global,
@@ -44,14 +59,6 @@ pub(crate) fn answer_reply(
 ) -> Result<String, AllocError>
     ensures { IfOk result (λ s. string_bytes s ≡ text_of (5 ∷ (number ∷ (0 ∷ (outcome_number answer.outcome ∷ (segment_at_fault answer.outcome ∷ (byte_at_fault answer.outcome ∷ (answer.losses ∷ (answer.count ∷ take answer.count buffer.now))))))))) }
 {
-    let numbers = [
-        number,
-        0,
-        u16::from(answer.outcome.number()),
-        u16::from(answer.outcome.segment()),
-        u16::from(answer.outcome.byte()),
-        answer.losses,
-        u16::from(answer.count),
-    ];
+    let numbers = collected_numbers(number, answer);
     text(heap, Kind::Collect.number(), &numbers, answer.bytes(buffer))
 }

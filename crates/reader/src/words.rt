@@ -67,6 +67,13 @@ impl Word<'_> {
     }
 }
 
+// How many words the iterator gives from here on.
+fn words_left(words: Words) -> usize
+    ensures { (ws : List Meaning) → Left words.entry ws → result ≡ length ws }
+{
+    Iterator::count(words)
+}
+
 impl<'a> Words<'a> {
     // The words of a record that follows the turns and ends on a free bus.
     pub fn of(slots: &'a [u8]) -> Result<Words<'a>, Refusal>
@@ -85,7 +92,7 @@ impl<'a> Words<'a> {
     pub fn count(self) -> usize
         ensures { (ws : List Meaning) → Left self.entry ws → result ≡ length ws }
     {
-        Iterator::count(self)
+        words_left(self)
     }
 }
 

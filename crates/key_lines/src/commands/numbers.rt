@@ -4,10 +4,9 @@ ghost use Rattle.std.proofs.Math.Option.{none};
 ghost use Rattle.key_lines.specs.Commands.{Command as Asked, Asks, Means, OneMeaning};
 ghost use Rattle.key_lines.specs.Readings.{Fits, Reads};
 
-use super::segments::{read_bytes, read_segments};
+use super::segments::{filled, read_bytes, read_segments};
 use super::{Command, Kind};
 use numerals::read_numbers;
-use orders::Order;
 
 fn place(number: u16, count: u16, rest: &[u16]) -> Option<Command>
     requires { length rest.now ≤ 44 }
@@ -15,7 +14,7 @@ fn place(number: u16, count: u16, rest: &[u16]) -> Option<Command>
 {
     let (segments, left) = read_segments(count, rest)?;
     let bytes = read_bytes(left)?;
-    let order = Order::filled(segments.as_slice(), bytes.as_slice());
+    let order = filled(&segments, &bytes);
     Some(Command::Place { number, order })
 }
 

@@ -3,10 +3,12 @@ ghost use Rattle.std.specs.Prelude.{◌≡◌, ℕ, ◌≤◌, true, false, List
 ghost use Rattle.array_vec.specs.Items.{items_of};
 ghost use Rattle.orders.specs.declared.RawSegment.{RawSegment as Raw};
 ghost use Rattle.orders.specs.Tests.{every, is_byte};
+ghost use Rattle.orders.specs.Fills.{Filled};
 ghost use Rattle.key_lines.specs.Commands.{segment_numbers};
 
 use array_vec::ArrayVec;
-use orders::RawSegment;
+use orders::{Order, RawSegment};
+use refusals::Refusal;
 
 // So many segments and the numbers after them, unless there are too few numbers.
 pub(crate) fn read_segments(
@@ -48,4 +50,14 @@ pub(crate) fn read_bytes(numbers: &[u16]) -> Option<ArrayVec<u8, 44>>
         bytes.push(u8::try_from(*n).ok()?).ok()?;
     }
     Some(bytes)
+}
+
+// A new order of the segments and bytes that were read, or why there is none.
+pub(crate) fn filled(
+    segments: &ArrayVec<RawSegment, 14>,
+    bytes: &ArrayVec<u8, 44>,
+) -> Result<Order, Refusal>
+    ensures { Filled result (items_of segments.now) (items_of bytes.now) }
+{
+    Order::filled(segments.as_slice(), bytes.as_slice())
 }

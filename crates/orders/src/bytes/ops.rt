@@ -15,13 +15,20 @@ impl Bytes {
         }
     }
 
-    // The first 32 of some bytes.
-    pub fn copied(bytes: &[u8]) -> Self
+    // As many of some bytes as there is room for: what a slice of u8 holds are bytes.
+    fn front(bytes: &[u8]) -> Self
         ensures { held result ≡ take 32 bytes.now }
     {
         Bytes {
             list: ArrayVec::from_slice(bytes, 0),
         }
+    }
+
+    // The first 32 of some bytes.
+    pub fn copied(bytes: &[u8]) -> Self
+        ensures { held result ≡ take 32 bytes.now }
+    {
+        Bytes::front(bytes)
     }
 
     pub fn len(&self) -> u8

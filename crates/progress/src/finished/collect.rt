@@ -51,19 +51,29 @@ fn read_count(segments: &[Segment]) -> usize
         .sum()
 }
 
+// Of the bytes, no more than the order reads.
+fn cut(order: &Order, bytes: &Bytes) -> Bytes
+    ensures bytes { held result ≡ take (read_total (order_of order.now)) (held bytes.now) }
+    ensures few { length (held result) ≤ read_total (order_of order.now) }
+    ensures whole { (length (held bytes.now) ≤ read_total (order_of order.now)) → held result ≡ held bytes.now }
+{
+    let bytes = bytes.as_slice();
+    let kept = read_count(order.segments()).min(bytes.len());
+    Bytes::copied(&bytes[..kept])
+}
+
 impl Finished {
     // Of the bytes, no more are kept than the order reads.
     pub fn new(order: Order, outcome: Outcome, losses: u16, bytes: Bytes) -> Finished
         ensures answer { answer_in result ≡ record { outcome = outcome; losses = losses; bytes = take (read_total (order_of order)) (held bytes) } }
         ensures whole { (length (held bytes) ≤ read_total (order_of order)) → answer_in result ≡ record { outcome = outcome; losses = losses; bytes = held bytes } }
     {
-        let bytes = bytes.as_slice();
-        let kept = read_count(order.segments()).min(bytes.len());
+        let bytes = cut(&order, &bytes);
         Finished {
             order,
             outcome,
             losses,
-            bytes: Bytes::copied(&bytes[..kept]),
+            bytes,
         }
     }
 

@@ -1,4 +1,3 @@
-use Rattle.std.proofs.Common.{◌∙◌}
 use Rattle.key_lines.proofs.Spelling.{not_bytes, place_read}
 use Rattle.key_lines.proofs.commands.numbers.place.Goals as goal
 
@@ -11,4 +10,4 @@ pub returns : goal.returns
 returns c =
     let read = c.in_ok-segments.ensures in
     let bytes = c.in_ok-bytes.ensures in
-    place_read c.args.number c.args.count c.args.rest.now c.filled-order.result _ _ _ _ read.0 read.1 bytes.0 c.as_slice.ensures (c.as_slice-2.ensures ∙ bytes.1) c.filled-order.ensures
+    place_read c.args.number c.args.count c.args.rest.now c.filled-order.result _ _ _ read.0 read.1 bytes.0 bytes.1 c.filled-order.ensures

@@ -1,7 +1,7 @@
 use Rattle.std.proofs.Common.{arith}
 use Rattle.orders.specs.Tests.{is_byte}
 use Rattle.orders.proofs.Holds.{all_small, every_split}
-use Rattle.orders.proofs.bytes.Bytes.copied.Goals as goal
+use Rattle.orders.proofs.bytes.Bytes.front.Goals as goal
 
 pub invariant_of-result : goal.invariant_of-result
 invariant_of-result c =
